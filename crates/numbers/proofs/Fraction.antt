@@ -1,0 +1,32 @@
+-- Laws of fractions.
+use mathlib.Core.Path.{_≡_, refl, ap, ap₂, subst}
+use Prim.Native.Nat.{ℕ, _+_, _*_, _≤_, _<_}
+use native.Mathlib.Nat.{mul-comm, add-comm, mul-assoc, le-of-mul-le-mul-left, mul-le-mul-left}
+use native.Mathlib.Omega.{arith}
+use Rattle.numbers.specs.Fraction.{Frac, _over_, _⊕_, _≼_, Within}
+use Rattle.numbers.proofs.Order.{ring}
+
+pub ⊕-comm : (p q : Frac) → p ⊕ q ≡ q ⊕ p
+⊕-comm p q = ap₂ _over_ (add-comm (p .num * q .den) (q .num * p .den)) (mul-comm (p .den) (q .den))
+
+-- p ≤ q + a and q ≤ r + b: p ≤ r + (b + a)
+≼-step : (p q r a b : Frac) → 0 < q .den → p ≼ q ⊕ a → q ≼ r ⊕ b → p ≼ r ⊕ (b ⊕ a)
+≼-step p q r a b pos h k =
+    le-of-mul-le-mul-left {k = q .den}
+    (let h′ = simp ring at (mul-le-mul-left (r .den * b .den) h) in
+    let k′ = simp ring at (mul-le-mul-left (p .den * a .den) k) in
+    simp ring (omega arith))
+    pos
+
+-- distances add up
+pub triangle : (p q r a b : Frac) → 0 < q .den → Within p q a → Within q r b → Within p r (b ⊕ a)
+triangle p q r a b pos h k = (
+  ≼-step p q r a b pos (h .0) (k .0),
+  subst (λ (s : Frac). r ≼ p ⊕ s) (⊕-comm a b) (≼-step r q p b a pos (k .1) (h .1)),
+)
+
+-- a fraction is within any bound of itself, and of one with the same value
+pub within-same : (p q b : Frac) → p .num * q .den ≡ q .num * p .den → Within p q b
+within-same p q b e =
+    let k = simp ring at (ap (λ (x : ℕ). b .den * x) e) in
+    (simp ring (omega arith), simp ring (omega arith))

@@ -1,0 +1,42 @@
+-- Cases and orders of naturals. `omega` multiplies products out and takes each monomial for an unknown, so an order that is not
+-- linear is proved by handing it the product of two facts.
+use mathlib.Core.Path.{_≡_, refl, ap, subst}
+use mathlib.Core.Logic.{_⊎_, inl, inr, ⊎-elim}
+use Prim.Native.Nat.{ℕ, zero, suc, _+_, _*_, _-_, _≤_, _<_, min}
+use native.Mathlib.Nat.{le-dest, mul-le-mul, lt-of-not-le, mul-add, add-mul, mul-assoc, mul-comm, mul-left-comm, one-mul, mul-one}
+use native.Mathlib.Decide.{decLe}
+use native.Mathlib.Omega.{arith}
+use Rattle.numbers.specs.Order.{dist}
+
+-- products in one order, for both sides of an equation that omega closes
+pub ruleset ring = (one-mul, mul-one, mul-add, add-mul, mul-assoc, mul-comm, mul-left-comm)
+
+pub lt-or-le : (a b : ℕ) → (a < b) ⊎ (b ≤ a)
+lt-or-le a b = go (decLe b a)
+  where
+    go : Dec (b ≤ a) → (a < b) ⊎ (b ≤ a)
+    go (yes h) = inr h
+    go (no f) = inl (lt-of-not-le f)
+
+pub eq-or-ne : (a b : ℕ) → (a ≡ b) ⊎ (a ≡ b → ⊥)
+eq-or-ne a b = go (lt-or-le a b) (lt-or-le b a)
+  where
+    go : (a < b) ⊎ (b ≤ a) → (b < a) ⊎ (a ≤ b) → (a ≡ b) ⊎ (a ≡ b → ⊥)
+    go (inl h) k = inr (λ e. omega arith)
+    go (inr h) (inl k) = inr (λ e. omega arith)
+    go (inr h) (inr k) = inl (omega arith)
+
+-- what holds of a + k, for every k, holds of each b from a on
+pub from-le : {a b : ℕ} (P : ℕ → Type 0) → a ≤ b → ((k : ℕ) → P (a + k)) → P b
+from-le P h f = subst P (le-dest h .1) (f (le-dest h .0))
+
+-- (b − a)·(d − c) is not negative
+pub cross : {a b c d : ℕ} → a ≤ b → c ≤ d → a * d + b * c ≤ a * c + b * d
+cross {a} {b} {c} {d} p q =
+    from-le (λ (b : ℕ). a * d + b * c ≤ a * c + b * d) p (λ k. from-le (λ (d : ℕ). a * d + (a + k) * c ≤ a * c + (a + k) * d) q (λ j. omega arith))
+
+pub square-le : {a b : ℕ} → a ≤ b → a * a ≤ b * b
+square-le p = mul-le-mul p p
+
+pub twice-product : (a b : ℕ) → 2 * (a * b) ≤ a * a + b * b
+twice-product a b = ⊎-elim (λ p. omega (arith, cross p p)) (λ p. omega (arith, cross p p)) (lt-or-le a b)

@@ -1,0 +1,68 @@
+-- Laws of sums over a range.
+use mathlib.Core.Path.{_≡_, refl, ap, ap₂, _∙_}
+use Prim.Native.Nat.{ℕ, zero, suc, _+_, _-_, _*_, _≤_, _<_}
+use native.Mathlib.Nat.{add-zero, zero-add, add-suc, suc-mul}
+use native.Mathlib.Numerals.{add-one}
+use native.Mathlib.Omega.{arith}
+use Rattle.numbers.specs.Sum.{sumTo}
+
+pub sum-none : (f : ℕ → ℕ) → sumTo 0 f ≡ 0
+unfolding sumTo
+sum-none f = refl
+
+pub sum-more : (n : ℕ) (f : ℕ → ℕ) → sumTo (n + 1) f ≡ sumTo n f + f n
+unfolding sumTo
+sum-more n f = rw add-one
+
+pub sum-ext : (n : ℕ) (f g : ℕ → ℕ) → ((k : ℕ) → k < n → f k ≡ g k) → sumTo n f ≡ sumTo n g
+unfolding sumTo
+sum-ext zero f g h = refl
+sum-ext (suc n) f g h = ap₂ _+_ (sum-ext n f g (λ k b. h k (omega arith))) (h n (omega arith))
+
+pub sum-zero : (n : ℕ) (f : ℕ → ℕ) → ((k : ℕ) → k < n → f k ≡ 0) → sumTo n f ≡ 0
+unfolding sumTo
+sum-zero zero f h = refl
+sum-zero (suc n) f h = omega (arith, sum-zero n f (λ k b. h k (omega arith)), h n (omega arith))
+
+pub sum-add : (n : ℕ) (f g : ℕ → ℕ) → sumTo n (λ k. f k + g k) ≡ sumTo n f + sumTo n g
+unfolding sumTo
+sum-add zero f g = refl
+sum-add (suc n) f g = omega (arith, sum-add n f g)
+
+-- terms that are each at most m
+pub sum-le : (n m : ℕ) (f : ℕ → ℕ) → ((k : ℕ) → f k ≤ m) → sumTo n f ≤ n * m
+unfolding sumTo
+sum-le zero m f h = omega arith
+sum-le (suc n) m f h = omega (arith, sum-le n m f h, h n, suc-mul n m)
+
+pub sum-split : (a n : ℕ) (f : ℕ → ℕ) → sumTo (a + n) f ≡ sumTo a f + sumTo n (λ i. f (a + i))
+unfolding sumTo
+sum-split a zero f = rw add-zero (omega arith)
+sum-split a (suc n) f = rw (add-suc, sum-split a n f) (omega arith)
+
+-- terms that are 0 outside a to b
+pub sum-window : (n a b : ℕ) (f : ℕ → ℕ) → a ≤ b → b ≤ n → ((k : ℕ) → k < a → f k ≡ 0) → ((k : ℕ) → b ≤ k → f k ≡ 0)
+    → sumTo n f ≡ sumTo (b - a) (λ i. f (a + i))
+sum-window n a b f h₁ h₂ low high =
+    ap (λ (m : ℕ). sumTo m f) e₁
+    ∙ sum-split b (n - b) f
+    ∙ ap₂ _+_ (ap (λ (m : ℕ). sumTo m f) e₂ ∙ sum-split a (b - a) f) (sum-zero (n - b) (λ i. f (b + i)) (λ k z. high (b + k) (omega arith)))
+    ∙ omega (arith, sum-zero a f low)
+  where
+    e₁ : n ≡ b + (n - b)
+    e₁ = omega arith
+
+    e₂ : b ≡ a + (b - a)
+    e₂ = omega arith
+
+-- one term that is not 0
+pub sum-one : (n a : ℕ) (f : ℕ → ℕ) → a < n → ((k : ℕ) → (k ≡ a → ⊥) → f k ≡ 0) → sumTo n f ≡ f a
+unfolding sumTo
+sum-one n a f b h =
+    sum-window n a (a + 1) f (omega arith) (omega arith) (λ k z. h k (omega arith)) (λ k z. h k (omega arith))
+    ∙ ap (λ (m : ℕ). sumTo m (λ i. f (a + i))) one
+    ∙ zero-add (f (a + 0))
+    ∙ ap f (add-zero a)
+  where
+    one : a + 1 - a ≡ suc zero
+    one = omega arith

@@ -1,0 +1,87 @@
+// Whole-number arithmetic that the other crates share.
+ghost use mathlib.Core.Path.{_≡_};
+ghost use Prim.Native.Nat.{_+_, _^_, _≤_, _<_};
+ghost use Rattle.numbers.specs.Nearest.{nearest};
+ghost use Rattle.numbers.specs.Order.{dist, Product, Remainder};
+ghost use Rattle.numbers.specs.Coordinate.{inRange, offsetOf, bitsOf, signedOf, wordOf, bytesOf};
+
+// n over d to the nearest whole number, halves up.
+pub fn nearest_quotient(n: u64, d: u64) -> u64
+    requires { ⌜ (0 < d) × (n + d < 2 ^ 64) ⌝ }
+    ensures { λ r. ⌜ r ≡ nearest n d ⌝ }
+{
+    (n + d / 2) / d
+}
+
+// A product of two 16-bit numbers.
+pub fn product(a: u64, b: u64) -> u64
+    requires { ⌜ (a ≤ 65535) × (b ≤ 65535) ⌝ }
+    ensures { λ p. ⌜ Product a b p ⌝ }
+{
+    a * b
+}
+
+// What is left of n by m.
+pub fn remainder(n: u64, m: u64) -> u64
+    requires { ⌜ 0 < m ⌝ }
+    ensures { λ r. ⌜ Remainder n m r ⌝ }
+{
+    n % m
+}
+
+// How far a and b are apart.
+pub fn distance(a: u64, b: u64) -> u64
+    ensures { λ r. ⌜ r ≡ dist a b ⌝ }
+{
+    if a < b { b - a } else { a - b }
+}
+
+// Whether a coordinate is from -4,096 to 4,095.
+pub fn in_range(c: i16) -> bool
+    ensures { λ r. ⌜ r ≡ inRange c ⌝ }
+{
+    -4096 <= c && c <= 4095
+}
+
+// The coordinate counted from -4,096, and 8,192 for a number out of range: the geometry is unsigned from here on.
+pub fn offset(c: i16) -> u64
+    ensures { λ r. ⌜ r ≡ offsetOf c ⌝ }
+{
+    if in_range(c) { (c + 4096) as u64 } else { 8192 }
+}
+
+// The 16 bits of a signed number.
+pub fn bits(c: i16) -> u16
+    ensures { λ r. ⌜ r ≡ bitsOf c ⌝ }
+{
+    if c < 0 {
+        65535 - (-1 - c) as u16
+    } else {
+        c as u16
+    }
+}
+
+// The signed number of 16 bits.
+pub fn signed(b: u16) -> i16
+    ensures { λ r. ⌜ r ≡ signedOf b ⌝ }
+{
+    if b < 32768 {
+        b as i16
+    } else {
+        -1 - (65535 - b) as i16
+    }
+}
+
+// The 16-bit number of two bytes, the low one first.
+pub fn word(low: u8, high: u8) -> u16
+    ensures { λ r. ⌜ r ≡ wordOf low high ⌝ }
+{
+    low as u16 + 256 * (high as u16)
+}
+
+// The two bytes of a 16-bit number, the low one first.
+pub fn word_bytes(w: u16) -> [u8; 2]
+    ensures { λ r. ⌜ r ≡ bytesOf w ⌝ }
+{
+    [(w % 256) as u8, (w / 256) as u8]
+}

@@ -1,0 +1,106 @@
+-- The refusals of a shape by the offsets of its coordinates, and what a shape without one has.
+use mathlib.Core.Path.{_≡_, refl, sym, _∙_, ap, ap₂, subst}
+use mathlib.Core.Bool.{Bool, true, false, not, cond, _&&_, _||_}
+use mathlib.Core.Logic.{_⊎_, inl, inr, ⊎-elim}
+use mathlib.Core.List.{[], _∷_}
+use Prim.Native.Nat.{ℕ, _+_, _≤_, _<_}
+use native.Mathlib.Omega.{arith}
+use borrow.Author.Tests.{lt-ltb, le-ltb, eq-eqb, ne-eqb, not-false}
+use lib.Dec.{T, ltb, leb, eqb}
+use lib.IntN.{ℤ}
+use lib.Signed.{leZ}
+use mir.Syntax.{w16}
+use mir.Val.{SFits, toZ, ofZ}
+use mir.Facts.{toZ-ofZ}
+use Rattle.numbers.specs.Coordinate.{inRange, offsetOf}
+use Rattle.numbers.proofs.Order.{lt-or-le, eq-or-ne}
+use Rattle.numbers.proofs.Integer.{diff-le, le-diff}
+use Rattle.numbers.proofs.Coordinate.{InRange, in-range, range-offset}
+use Rattle.shapes.specs.Limits.{first, outside, same, offRange, coincide, offRadius, offWidth, shapeFault}
+use Rattle.shapes.specs.Offsets.{pointOf, endsOf}
+use Rattle.shapes.specs.declared.Point.{Point}
+use Rattle.shapes.specs.declared.Ends.{Ends}
+use Rattle.shapes.specs.declared.Line.{Line}
+use Rattle.shapes.specs.declared.Disc.{Disc}
+use Rattle.shapes.specs.declared.Ring.{Ring}
+use Rattle.shapes.specs.declared.Shape.the-variants.{Line as line, Disc as disc, Ring as ring}
+
+-- the disc around a ring
+abbrev pub outer : Ring → Disc
+outer g = record { x = g .x; y = g .y; radius = g .radius }
+
+T-true : (t : Bool) → T t → t ≡ true
+T-true true h = refl
+T-true false h = absurd h
+
+T-false : (t : Bool) → (T t → ⊥) → t ≡ false
+T-false true h = absurd (h tt)
+T-false false h = refl
+
+T-both : (a b : Bool) → T (a && b) → T a × T b
+T-both true b h = (tt, h)
+T-both false b h = absurd h
+
+-- a coordinate out of range has the offset 8,192
+off-offset : (z : ℤ) → outside z ≡ ltb 8191 (offsetOf z)
+off-offset z = ap not (range-offset z) ∙ go (lt-or-le (offsetOf z) 8192)
+  where
+    go : (offsetOf z < 8192) ⊎ (8192 ≤ offsetOf z) → not (ltb (offsetOf z) 8192) ≡ ltb 8191 (offsetOf z)
+    go (inl h) = rw (lt-ltb (offsetOf z) 8192 h, le-ltb 8191 (offsetOf z) (omega arith))
+    go (inr h) = rw (le-ltb (offsetOf z) 8192 h, lt-ltb 8191 (offsetOf z) (omega arith))
+
+in-of : {z : ℤ} → outside z ≡ false → InRange z
+in-of {z} e = in-range z (not-false (inRange z) e)
+
+-- equality of two coordinates in range
+same-offset : {a b : ℤ} → InRange a → InRange b → same a b ≡ eqb (offsetOf a) (offsetOf b)
+same-offset {a} {b} p q = go (eq-or-ne (offsetOf a) (offsetOf b))
+  where
+    le : {z y : ℤ} → InRange z → InRange y → offsetOf z ≤ offsetOf y → leZ z y ≡ true
+    le {z} {y} p q h = T-true (leZ z y) (le-diff (p .diff) (q .diff) (omega arith))
+
+    go : (offsetOf a ≡ offsetOf b) ⊎ (offsetOf a ≡ offsetOf b → ⊥) → same a b ≡ eqb (offsetOf a) (offsetOf b)
+    go (inl e) = rw (le p q (omega arith), le q p (omega arith), eq-eqb (offsetOf a) (offsetOf b) e)
+    go (inr f) =
+        T-false (same a b) (λ t. f (let h = T-both (leZ a b) (leZ b a) t in omega (arith, diff-le (p .diff) (q .diff) (h .0), diff-le (q .diff) (p .diff) (h .1))))
+        ∙ sym (ne-eqb (offsetOf a) (offsetOf b) f)
+
+-- a point's offsets from what a local gives back of its coordinates
+pub point-kept : {x y : ℤ} {p : Point} → SFits w16 x → SFits w16 y → p ≡ pointOf (toZ w16 (ofZ w16 x)) (toZ w16 (ofZ w16 y)) → p ≡ pointOf x y
+point-kept f g e = rw (toZ-ofZ f, toZ-ofZ g) at e
+
+-- the refusals of a line by the offsets of its ends
+pub line-faults : (l : Line) (e : Ends) → e ≡ endsOf l
+    → shapeFault (line l)
+    ≡ cond (ltb 8191 (e .x0) || ltb 8191 (e .y0) || ltb 8191 (e .x1) || ltb 8191 (e .y1)) 7 (cond (eqb (e .x0) (e .x1) && eqb (e .y0) (e .y1)) 9 0)
+unfolding shapeFault offRange coincide offRadius offWidth
+line-faults l e h =
+    rw (h, ← off-offset (l .x0), ← off-offset (l .y0), ← off-offset (l .x1), ← off-offset (l .y1))
+    (go (outside (l .x0)) (outside (l .y0)) (outside (l .x1)) (outside (l .y1)) refl refl refl refl)
+  where
+    go : (a b c d : Bool) → outside (l .x0) ≡ a → outside (l .y0) ≡ b → outside (l .x1) ≡ c → outside (l .y1) ≡ d
+        → _≡_ {A = ℕ} (cond (a || b || c || d) 7 (cond (same (l .x0) (l .x1) && same (l .y0) (l .y1)) 9 0))
+        (cond (a || b || c || d) 7 (cond (eqb (offsetOf (l .x0)) (offsetOf (l .x1)) && eqb (offsetOf (l .y0)) (offsetOf (l .y1))) 9 0))
+    go true b c d e₀ e₁ e₂ e₃ = refl
+    go false true c d e₀ e₁ e₂ e₃ = refl
+    go false false true d e₀ e₁ e₂ e₃ = refl
+    go false false false true e₀ e₁ e₂ e₃ = refl
+    go false false false false e₀ e₁ e₂ e₃ = rw (same-offset (in-of e₀) (in-of e₂), same-offset (in-of e₁) (in-of e₃))
+
+-- those of a disc
+pub disc-faults : (d : Disc) (p : Point) → p ≡ pointOf (d .x) (d .y)
+    → shapeFault (disc d) ≡ cond (ltb 8191 (p .x) || ltb 8191 (p .y)) 7 (cond (ltb (d .radius) 1 || ltb 255 (d .radius)) 10 0)
+unfolding shapeFault offRange coincide offRadius offWidth
+disc-faults d p h = rw (h, off-offset (d .x), off-offset (d .y))
+
+-- those of a ring: its disc, then its width
+pub ring-faults : (g : Ring)
+    → shapeFault (ring g)
+    ≡ cond (ltb 0 (shapeFault (disc (outer g)))) (shapeFault (disc (outer g))) (cond (ltb (g .width) 1 || ltb (g .radius) (g .width)) 11 0)
+unfolding shapeFault offRange coincide offRadius offWidth
+ring-faults g = go (outside (g .x) || outside (g .y)) (ltb (g .radius) 1 || ltb 255 (g .radius)) (cond (ltb (g .width) 1 || ltb (g .radius) (g .width)) 11 0)
+  where
+    go : (a b : Bool) (n : ℕ) → cond a 7 (cond b 10 n) ≡ cond (ltb 0 (cond a 7 (cond b 10 0))) (cond a 7 (cond b 10 0)) n
+    go true b n = refl
+    go false true n = refl
+    go false false n = refl

@@ -1,0 +1,3 @@
+-- The limits of shapes, clips and records.
+pub mod Limits
+pub mod Offsets

@@ -1,0 +1,213 @@
+// The shapes, the settings and the records of a drawing list, and the limits of each.
+ghost use mathlib.Core.Path.{_≡_};
+ghost use Rattle.shapes.specs.Limits.{sizeFault, clipFault, shapeFault, recordFault};
+ghost use Rattle.shapes.specs.Offsets.{pointOf, endsOf};
+
+pub struct Line {
+    pub exact: bool,
+    pub x0: i16,
+    pub y0: i16,
+    pub x1: i16,
+    pub y1: i16,
+}
+
+pub struct Disc {
+    pub x: i16,
+    pub y: i16,
+    pub radius: u16,
+}
+
+pub struct Ring {
+    pub x: i16,
+    pub y: i16,
+    pub radius: u16,
+    pub width: u16,
+}
+
+pub enum Shape {
+    Line(Line),
+    Disc(Disc),
+    Ring(Ring),
+}
+
+pub struct Clip {
+    pub x0: u16,
+    pub y0: u16,
+    pub x1: u16,
+    pub y1: u16,
+}
+
+pub enum Setting {
+    Clip(Clip),
+    Level(u8),
+}
+
+pub enum Record {
+    End,
+    Setting(Setting),
+    Shape(Shape),
+}
+
+// A point, its coordinates as offsets.
+pub struct Point {
+    pub x: u64,
+    pub y: u64,
+}
+
+pub fn point_of(x: i16, y: i16) -> Point
+    ensures { λ r. ⌜ r ≡ pointOf x y ⌝ }
+{
+    Point {
+        x: numbers::offset(x),
+        y: numbers::offset(y),
+    }
+}
+
+// The ends of a line, their coordinates as offsets.
+pub struct Ends {
+    pub x0: u64,
+    pub y0: u64,
+    pub x1: u64,
+    pub y1: u64,
+}
+
+pub fn ends_of(line: Line) -> Ends
+    ensures { λ r. ⌜ r ≡ endsOf line ⌝ }
+{
+    Ends {
+        x0: numbers::offset(line.x0),
+        y0: numbers::offset(line.y0),
+        x1: numbers::offset(line.x1),
+        y1: numbers::offset(line.y1),
+    }
+}
+
+// The refusal of W and H, 3, or 0.
+pub fn size_fault(w: u16, h: u16) -> u8
+    ensures { λ r. ⌜ r ≡ sizeFault w h ⌝ }
+{
+    if w < 1 {
+        return 3;
+    }
+    if 1024 < w {
+        return 3;
+    }
+    if h < 1 {
+        return 3;
+    }
+    if 1024 < h {
+        return 3;
+    }
+    0
+}
+
+// The refusal of a clip on a page of w by h, 8, or 0.
+pub fn clip_fault(w: u16, h: u16, clip: Clip) -> u8
+    ensures { λ r. ⌜ r ≡ clipFault w h clip ⌝ }
+{
+    if clip.x1 < clip.x0 {
+        return 8;
+    }
+    if w < clip.x1 {
+        return 8;
+    }
+    if clip.y1 < clip.y0 {
+        return 8;
+    }
+    if h < clip.y1 {
+        return 8;
+    }
+    0
+}
+
+// The first refusal of a line, 7 or 9, or 0.
+fn line_fault(line: Line) -> u8
+    ensures { λ r. ⌜ r ≡ shapeFault (Shape.Line line) ⌝ }
+{
+    let e = ends_of(line);
+    if 8191 < e.x0 {
+        return 7;
+    }
+    if 8191 < e.y0 {
+        return 7;
+    }
+    if 8191 < e.x1 {
+        return 7;
+    }
+    if 8191 < e.y1 {
+        return 7;
+    }
+    if e.x0 != e.x1 {
+        return 0;
+    }
+    if e.y0 != e.y1 {
+        return 0;
+    }
+    9
+}
+
+// The first refusal of a disc, 7 or 10, or 0.
+fn disc_fault(disc: Disc) -> u8
+    ensures { λ r. ⌜ r ≡ shapeFault (Shape.Disc disc) ⌝ }
+{
+    let p = point_of(disc.x, disc.y);
+    if 8191 < p.x {
+        return 7;
+    }
+    if 8191 < p.y {
+        return 7;
+    }
+    if disc.radius < 1 {
+        return 10;
+    }
+    if 255 < disc.radius {
+        return 10;
+    }
+    0
+}
+
+// The first refusal of a ring: that of its disc, then 11, or 0.
+fn ring_fault(ring: Ring) -> u8
+    ensures { λ r. ⌜ r ≡ shapeFault (Shape.Ring ring) ⌝ }
+{
+    let outer = disc_fault(Disc {
+        x: ring.x,
+        y: ring.y,
+        radius: ring.radius,
+    });
+    if 0 < outer {
+        return outer;
+    }
+    if ring.width < 1 {
+        return 11;
+    }
+    if ring.radius < ring.width {
+        return 11;
+    }
+    0
+}
+
+// The first refusal of a shape, 7, 9, 10 or 11, or 0.
+pub fn shape_fault(shape: Shape) -> u8
+    ensures { λ r. ⌜ r ≡ shapeFault shape ⌝ }
+{
+    match shape {
+        Shape::Line(line) => line_fault(line),
+        Shape::Disc(disc) => disc_fault(disc),
+        Shape::Ring(ring) => ring_fault(ring),
+    }
+}
+
+// The first refusal of a record on a page of w by h, 7 to 11, or 0.
+pub fn record_fault(w: u16, h: u16, rec: Record) -> u8
+    ensures { λ r. ⌜ r ≡ recordFault w h rec ⌝ }
+{
+    match rec {
+        Record::End => 0,
+        Record::Setting(setting) => match setting {
+            Setting::Clip(clip) => clip_fault(w, h, clip),
+            Setting::Level(_) => 0,
+        },
+        Record::Shape(shape) => shape_fault(shape),
+    }
+}

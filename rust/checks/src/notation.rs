@@ -1,0 +1,117 @@
+//! Shapes, clips and records as the tables write them.
+
+use reference::format::Header;
+use reference::shape::{Clip, Disc, Line, Record, Ring, Setting, Shape};
+use std::str::FromStr;
+
+/// What the writer is asked for.
+#[derive(Clone, Copy, Debug)]
+pub enum Writable {
+    Header(Header),
+    Record(Record),
+}
+
+/// Numbers parted by blanks, exactly `N` of them.
+pub fn numbers<T: FromStr, const N: usize>(text: &str) -> [T; N] {
+    let parse = |word: &str| word.parse().ok();
+    let parsed: Option<Vec<T>> = text.split_whitespace().map(parse).collect();
+    let array = parsed.and_then(|list| list.try_into().ok());
+    array.unwrap_or_else(|| panic!("{N} numbers in range expected, not `{text}`"))
+}
+
+/// The first word, and what follows it.
+fn keyword(text: &str) -> (&str, &str) {
+    let text = text.trim();
+    text.split_once(' ').unwrap_or((text, ""))
+}
+
+pub fn parse_shape(text: &str) -> Shape {
+    let (kind, fields) = keyword(text);
+    match kind {
+        "exact" | "approx" => {
+            let [x0, y0, x1, y1] = numbers(fields);
+            let exact = kind == "exact";
+            Shape::Line(Line {
+                exact,
+                x0,
+                y0,
+                x1,
+                y1,
+            })
+        }
+        "disc" => parse_disc(fields),
+        "ring" => parse_ring(fields),
+        _ => panic!("no shape is called `{kind}`"),
+    }
+}
+
+fn parse_disc(fields: &str) -> Shape {
+    let [x, y, radius]: [i32; 3] = numbers(fields);
+    Shape::Disc(Disc {
+        x: narrow(x),
+        y: narrow(y),
+        radius: narrow(radius),
+    })
+}
+
+fn parse_ring(fields: &str) -> Shape {
+    let [x, y, radius, width]: [i32; 4] = numbers(fields);
+    Shape::Ring(Ring {
+        x: narrow(x),
+        y: narrow(y),
+        radius: narrow(radius),
+        width: narrow(width),
+    })
+}
+
+/// Coordinates are signed and radii are not, so a mixed row is parsed wide first.
+fn narrow<T: TryFrom<i32>>(value: i32) -> T {
+    let narrowed = T::try_from(value).ok();
+    narrowed.unwrap_or_else(|| panic!("{value} does not fit 16 bits"))
+}
+
+pub fn parse_clip(text: &str) -> Clip {
+    let [x0, y0, x1, y1] = numbers(text);
+    Clip { x0, y0, x1, y1 }
+}
+
+pub fn parse_writable(text: &str) -> Writable {
+    let (kind, fields) = keyword(text);
+    match kind {
+        "header" => {
+            let [width, height, background]: [u16; 3] = numbers(fields);
+            Writable::Header(Header {
+                width,
+                height,
+                background: narrow(background.into()),
+            })
+        }
+        "end" => Writable::Record(Record::End),
+        "clip" => Writable::Record(Record::Setting(Setting::Clip(parse_clip(fields)))),
+        "level" => {
+            let [level] = numbers(fields);
+            Writable::Record(Record::Setting(Setting::Level(level)))
+        }
+        _ => Writable::Record(Record::Shape(parse_shape(text))),
+    }
+}
+
+pub fn show_record(record: &Record) -> String {
+    match record {
+        Record::End => "end".to_string(),
+        Record::Setting(Setting::Clip(c)) => format!("clip {} {} {} {}", c.x0, c.y0, c.x1, c.y1),
+        Record::Setting(Setting::Level(level)) => format!("level {level}"),
+        Record::Shape(shape) => show_shape(shape),
+    }
+}
+
+fn show_shape(shape: &Shape) -> String {
+    match shape {
+        Shape::Line(line) => {
+            let kind = if line.exact { "exact" } else { "approx" };
+            format!("{kind} {} {} {} {}", line.x0, line.y0, line.x1, line.y1)
+        }
+        Shape::Disc(disc) => format!("disc {} {} {}", disc.x, disc.y, disc.radius),
+        Shape::Ring(ring) => format!("ring {} {} {} {}", ring.x, ring.y, ring.radius, ring.width),
+    }
+}

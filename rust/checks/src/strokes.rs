@@ -1,0 +1,182 @@
+//! Random shapes, lawful or not, and pixels close enough to them to be covered often.
+
+use crate::random::Random;
+use reference::shape::{Disc, Line, Ring, Shape};
+
+const EDGES: [i16; 9] = [-4096, -4095, -1024, -1, 0, 1, 1024, 4094, 4095];
+const OUTSIDE: [i16; 4] = [i16::MIN, -4097, 4096, i16::MAX];
+const RADII: [u16; 9] = [0, 1, 2, 3, 5, 254, 255, 256, u16::MAX];
+
+/// A number that may have left 16 bits, brought back into them.
+fn clamped(value: i64) -> i16 {
+    value.clamp(i16::MIN.into(), i16::MAX.into()) as i16
+}
+
+fn coordinate(random: &mut Random) -> i16 {
+    match random.between(0, 3) {
+        0 => random.pick(&EDGES),
+        1 => clamped(random.between(-4096, 4095)),
+        _ => clamped(random.between(-20, 20)),
+    }
+}
+
+/// A shape and a pixel to ask about. One in eight has a coordinate out of range.
+pub fn shape_and_pixel(random: &mut Random) -> (Shape, i16, i16) {
+    let mut shape = match random.between(0, 4) {
+        0..=2 => Shape::Line(line(random)),
+        3 => Shape::Disc(disc(random)),
+        _ => Shape::Ring(ring(random)),
+    };
+    let (mut x, mut y) = pixel_near(random, &shape);
+    if random.one_in(16) {
+        push_outside(random, &mut shape);
+    }
+    if random.one_in(16) {
+        let outside = if random.flip() { &mut x } else { &mut y };
+        *outside = random.pick(&OUTSIDE);
+    }
+    (shape, x, y)
+}
+
+pub fn line(random: &mut Random) -> Line {
+    let (x0, y0) = (coordinate(random), coordinate(random));
+    let (dx, dy) = match random.between(0, 7) {
+        0 => (0, 0),
+        1 => (random.between(-40, 40), 0),
+        2 => (0, random.between(-40, 40)),
+        3 => diagonal(random),
+        4 => (random.between(-1, 1), random.between(-1, 1)),
+        5 => (random.between(-12, 12), random.between(-12, 12)),
+        6 => return longest_line(random),
+        _ => long_spans(random, x0, y0),
+    };
+    let within = |value: i64| clamped(value.clamp(-4096, 4095));
+    Line {
+        exact: random.flip(),
+        x0,
+        y0,
+        x1: within(i64::from(x0) + dx),
+        y1: within(i64::from(y0) + dy),
+    }
+}
+
+fn diagonal(random: &mut Random) -> (i64, i64) {
+    let span = random.between(1, 60);
+    (random.pick(&[span, -span]), random.pick(&[span, -span]))
+}
+
+/// A line from one limit of the coordinates to the other, along x or y.
+fn longest_line(random: &mut Random) -> Line {
+    let (low, high) = random.pick(&[(-4096, 4095), (4095, -4096)]);
+    let (a, b) = (coordinate(random), coordinate(random));
+    let (x0, y0, x1, y1) = if random.flip() {
+        (low, a, high, b)
+    } else {
+        (a, low, b, high)
+    };
+    Line {
+        exact: random.flip(),
+        x0,
+        y0,
+        x1,
+        y1,
+    }
+}
+
+fn long_spans(random: &mut Random, x0: i16, y0: i16) -> (i64, i64) {
+    let (x1, y1) = (coordinate(random), coordinate(random));
+    (i64::from(x1) - i64::from(x0), i64::from(y1) - i64::from(y0))
+}
+
+fn radius(random: &mut Random) -> u16 {
+    match random.between(0, 2) {
+        0 => random.pick(&RADII),
+        1 => random.between(1, 12) as u16,
+        _ => random.between(1, 255) as u16,
+    }
+}
+
+pub fn disc(random: &mut Random) -> Disc {
+    Disc {
+        x: coordinate(random),
+        y: coordinate(random),
+        radius: radius(random),
+    }
+}
+
+pub fn ring(random: &mut Random) -> Ring {
+    let Disc { x, y, radius } = disc(random);
+    let narrow = random.between(1, i64::from(radius.max(1))) as u16;
+    let beyond = radius.saturating_add(1);
+    let width = random.pick(&[0, 1, narrow, narrow, radius, beyond, u16::MAX]);
+    Ring {
+        x,
+        y,
+        radius,
+        width,
+    }
+}
+
+/// Moves one coordinate of the shape out of range.
+fn push_outside(random: &mut Random, shape: &mut Shape) {
+    let coordinates: Vec<&mut i16> = match shape {
+        Shape::Line(line) => vec![&mut line.x0, &mut line.y0, &mut line.x1, &mut line.y1],
+        Shape::Disc(disc) => vec![&mut disc.x, &mut disc.y],
+        Shape::Ring(ring) => vec![&mut ring.x, &mut ring.y],
+    };
+    let chosen = random.between(0, coordinates.len() as i64 - 1);
+    let outside = random.pick(&OUTSIDE);
+    for (index, coordinate) in (0..).zip(coordinates) {
+        if index == chosen {
+            *coordinate = outside;
+        }
+    }
+}
+
+/// A pixel within a few steps of the shape; now and then any pixel at all.
+fn pixel_near(random: &mut Random, shape: &Shape) -> (i16, i16) {
+    if random.one_in(20) {
+        return (coordinate(random), coordinate(random));
+    }
+    let (x, y) = match shape {
+        Shape::Line(line) => on_line(random, line),
+        Shape::Disc(disc) => on_circle(random, disc.x, disc.y, disc.radius),
+        Shape::Ring(ring) => {
+            let inner = ring.radius.saturating_sub(ring.width);
+            let radius = random.pick(&[ring.radius, inner]);
+            on_circle(random, ring.x, ring.y, radius)
+        }
+    };
+    let (x, y) = (x + random.between(-2, 2), y + random.between(-2, 2));
+    (clamped(x.clamp(-4096, 4095)), clamped(y.clamp(-4096, 4095)))
+}
+
+fn on_line(random: &mut Random, line: &Line) -> (i64, i64) {
+    let (x0, y0) = (i64::from(line.x0), i64::from(line.y0));
+    let (dx, dy) = (i64::from(line.x1) - x0, i64::from(line.y1) - y0);
+    let longer = dx.abs().max(dy.abs());
+    let step = match random.between(0, 3) {
+        0 => random.pick(&[0, longer]),
+        _ => random.between(0, longer),
+    };
+    let share = |span: i64| (span * step).checked_div(longer).unwrap_or(0);
+    (x0 + share(dx), y0 + share(dy))
+}
+
+/// A point on the circle, or for one in four inside it.
+fn on_circle(random: &mut Random, x: i16, y: i16, radius: u16) -> (i64, i64) {
+    let radius = i64::from(radius.min(300));
+    let across = random.between(-radius, radius);
+    let down = (radius * radius - across * across).isqrt();
+    let down = match random.between(0, 3) {
+        0 => random.between(-down, down),
+        1 => down,
+        _ => -down,
+    };
+    let (across, down) = if random.flip() {
+        (across, down)
+    } else {
+        (down, across)
+    };
+    (i64::from(x) + across, i64::from(y) + down)
+}

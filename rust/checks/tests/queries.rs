@@ -1,0 +1,178 @@
+//! Coverage queries: the library against the reference on random shapes, and on the stored rows.
+
+use checks::calls::answer;
+use checks::cases::rows;
+use checks::library;
+use checks::random::Random;
+use checks::strokes::shape_and_pixel;
+use reference::coverage::{query, Fraction};
+use reference::refusal::Refusal;
+use reference::shape::{Line, Shape};
+use std::collections::BTreeMap;
+
+const QUERIES: u32 = 400_000;
+/// Every class of input has to come up at least this often.
+const LEAST: u32 = 100;
+
+type Answer = Result<Fraction, Refusal>;
+
+/// Classes that a run must meet. Lines meet theirs once exact and once approximate.
+fn wanted() -> Vec<String> {
+    let mut wanted: Vec<String> = [7, 9, 10, 11].map(|n| format!("refused {n}")).into();
+    let refused = ["line end", "pixel", "centre", "pixel before equal ends"];
+    wanted.extend(refused.map(|what| format!("refused 7: {what}")));
+    let values = ["0", "1", "2", "255", "256", "65535"];
+    wanted.extend(values.map(|value| format!("disc of radius {value}")));
+    let widths = ["0", "1", "the radius", "one more than the radius"];
+    wanted.extend(widths.map(|width| format!("ring of width {width}")));
+    wanted.extend(["disc", "ring"].map(|kind| format!("{kind} whole")));
+    for kind in ["exact", "approximate", "disc", "ring"] {
+        wanted.extend(["uncovered", "covered", "at the last pixel"].map(|c| format!("{kind} {c}")));
+    }
+    for kind in ["exact", "approximate"] {
+        let classes = ["l = 1", "two rows", "three rows", "t = 0", "longest span"];
+        wanted.extend(classes.map(|class| format!("{kind} {class}")));
+        for x in [-1, 0, 1] {
+            for y in [-1, 0, 1].into_iter().filter(|y| (x, *y) != (0, 0)) {
+                let spreads = if x * y == 0 {
+                    &["s = 0"][..]
+                } else {
+                    &["s = l", "flat", "steep"]
+                };
+                wanted.extend(
+                    spreads
+                        .iter()
+                        .map(|s| format!("{kind} {s} towards {x} {y}")),
+                );
+            }
+        }
+    }
+    wanted
+}
+
+fn classes(shape: &Shape, x: i16, y: i16, answer: &Answer) -> Vec<String> {
+    match answer {
+        Err(refusal) => refusal_classes(shape, x, y, refusal),
+        Ok(cover) => {
+            let kind = kind(shape);
+            let mut classes = lawful_classes(shape, x, y);
+            classes.push(if cover.n > 0 { "covered" } else { "uncovered" }.to_string());
+            if cover.n == cover.d {
+                classes.push("whole".to_string());
+            }
+            if [x, y].iter().any(|c| [-4096, 4095].contains(c)) && cover.n > 0 {
+                classes.push("at the last pixel".to_string());
+            }
+            let named = classes.into_iter().map(|class| format!("{kind} {class}"));
+            named.collect()
+        }
+    }
+}
+
+fn kind(shape: &Shape) -> &'static str {
+    match shape {
+        Shape::Line(line) if line.exact => "exact",
+        Shape::Line(_) => "approximate",
+        Shape::Disc(_) => "disc",
+        Shape::Ring(_) => "ring",
+    }
+}
+
+fn refusal_classes(shape: &Shape, x: i16, y: i16, refusal: &Refusal) -> Vec<String> {
+    let mut classes = vec![format!("refused {}", refusal.number)];
+    if refusal.number == 7 {
+        let pixel = [x, y].iter().any(|c| !(-4096..=4095).contains(c));
+        let equal = shape.form_fault().is_some() && matches!(shape, Shape::Line(_));
+        let what = match shape {
+            _ if shape.coordinate_fault().is_none() && equal => "pixel before equal ends",
+            _ if shape.coordinate_fault().is_none() && pixel => "pixel",
+            Shape::Line(_) => "line end",
+            _ => "centre",
+        };
+        classes.push(format!("refused 7: {what}"));
+    } else {
+        classes.extend(circle_classes(shape).map(|class| format!("{} {class}", kind(shape))));
+    }
+    classes
+}
+
+fn lawful_classes(shape: &Shape, x: i16, y: i16) -> Vec<String> {
+    match shape {
+        Shape::Line(line) => line_classes(line, x, y),
+        _ => circle_classes(shape).into_iter().collect(),
+    }
+}
+
+fn circle_classes(shape: &Shape) -> Option<String> {
+    match shape {
+        Shape::Line(_) => None,
+        Shape::Disc(disc) => Some(format!("of radius {}", disc.radius)),
+        Shape::Ring(ring) if ring.width == ring.radius => Some("of width the radius".to_string()),
+        Shape::Ring(ring) if ring.width.checked_sub(1) == Some(ring.radius) => {
+            Some("of width one more than the radius".to_string())
+        }
+        Shape::Ring(ring) => Some(format!("of width {}", ring.width)),
+    }
+}
+
+fn line_classes(line: &Line, x: i16, y: i16) -> Vec<String> {
+    let dx = i64::from(line.x1) - i64::from(line.x0);
+    let dy = i64::from(line.y1) - i64::from(line.y0);
+    let (l, s) = (dx.abs().max(dy.abs()), dx.abs().min(dy.abs()));
+    let spread = match s {
+        0 => "s = 0",
+        _ if s == l => "s = l",
+        _ if dy.abs() > dx.abs() => "steep",
+        _ => "flat",
+    };
+    let mut classes = vec![format!("{spread} towards {} {}", dx.signum(), dy.signum())];
+    if l == 1 {
+        classes.push("l = 1".to_string());
+    }
+    if l == 8191 {
+        classes.push("longest span".to_string());
+    }
+    let column = match dy.abs() > dx.abs() {
+        true => i64::from(y) - i64::from(line.y0.min(line.y1)),
+        false => i64::from(x) - i64::from(line.x0.min(line.x1)),
+    };
+    if (0..l).contains(&column) {
+        let t = (l + 2 * s * column) % (2 * l) + 2 * s - 2 * l;
+        let rows = match t.signum() {
+            1 => "three rows",
+            0 => "t = 0",
+            _ => "two rows",
+        };
+        classes.push(rows.to_string());
+    }
+    classes
+}
+
+#[test]
+fn random_queries_agree() {
+    let mut random = Random::new(1);
+    let mut met: BTreeMap<String, u32> = BTreeMap::new();
+    for _ in 0..QUERIES {
+        let (shape, x, y) = shape_and_pixel(&mut random);
+        let expected = query(&shape, x, y);
+        let found = library::coverage(&shape, x, y);
+        assert_eq!(found, expected, "{shape:?} at {x} {y}");
+        for class in classes(&shape, x, y, &expected) {
+            *met.entry(class).or_default() += 1;
+        }
+    }
+    for class in wanted() {
+        let count = met.get(&class).copied().unwrap_or(0);
+        assert!(count >= LEAST, "only {count} queries of class `{class}`");
+    }
+}
+
+#[test]
+fn stored_rows_agree() {
+    let rows = rows("queries");
+    for row in &rows {
+        let found = answer(&format!("queries {}", row.call));
+        assert_eq!(found, row.answer, "{}", row.call);
+    }
+    assert_eq!(rows.len(), 240);
+}

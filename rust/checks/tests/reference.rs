@@ -1,0 +1,100 @@
+//! The reference against every stored table and list.
+
+use checks::cases::{list_cases, rows, TABLES};
+use checks::notation::Writable;
+use checks::rows::{self as answers, ShapeCall, Writing};
+use reference::exact::{bound, byte_after, exact_blend, touches_at, within};
+use reference::list::{check, draw_list, Accepted};
+use reference::refusal::Refusal;
+use reference::{coverage, page, print, reader, writer};
+
+fn draw(call: &mut ShapeCall) -> Result<u64, Refusal> {
+    page::draw_shape(
+        &mut call.page,
+        call.width,
+        call.height,
+        &call.clip,
+        call.level,
+        &call.shape,
+    )
+}
+
+fn write(writing: &mut Writing, what: &Writable) -> Result<(), Refusal> {
+    let mut writer = writer::Writer {
+        list: &mut writing.list,
+        place: writing.place,
+        width: writing.width,
+        height: writing.height,
+    };
+    let outcome = match what {
+        Writable::Header(header) => writer.write_header(header),
+        Writable::Record(record) => writer.write_record(record),
+    };
+    let (place, width, height) = (writer.place, writer.width, writer.height);
+    (writing.place, writing.width, writing.height) = (place, width, height);
+    outcome
+}
+
+fn answer(table: &str, call: &str) -> String {
+    match table {
+        "queries" => answers::queries(call, coverage::query),
+        "draws" => answers::draws(call, draw),
+        "writes" => answers::writes(call, write),
+        "reads" => answers::reads(call, reader::read_record),
+        "lists" => answers::lists(call, |list, page| {
+            draw_list(list, page).map(|drawn| drawn.touched)
+        }),
+        _ => panic!("no table {table}"),
+    }
+}
+
+#[test]
+fn every_row_of_every_table() {
+    let mut count = 0;
+    for table in TABLES {
+        for row in rows(table) {
+            let answer = answer(table, &row.call);
+            assert_eq!(answer.trim(), row.answer, "{table} {}", row.call);
+            count += 1;
+        }
+    }
+    assert_eq!(count, 240 + 120 + 117 + 90 + 100);
+}
+
+#[test]
+fn every_printed_list() {
+    let cases = list_cases();
+    for case in &cases {
+        assert_eq!(print::print(&case.list), case.output, "{}", case.name);
+    }
+    assert_eq!(cases.len(), 45);
+}
+
+/// Each byte is the fold over its touches, and lies within the bound of the exact blend.
+fn hold_to_exact(accepted: &Accepted, list: &[u8]) {
+    let header = accepted.header;
+    let mut page = vec![0; page::page_length(header.width, header.height)];
+    let drawn = draw_list(list, &mut page).expect("the list was accepted");
+    let mut touched = 0;
+    for (k, &byte) in page.iter().enumerate() {
+        let width = usize::from(header.width);
+        let touches = touches_at(accepted, (k % width) as u16, (k / width) as u16);
+        let exact = exact_blend(header.background, &touches);
+        assert_eq!(byte, byte_after(header.background, &touches));
+        assert!(within(byte, &exact, &bound(&touches)), "byte {k}");
+        touched += touches.len() as u64;
+    }
+    assert_eq!(drawn.touched, touched);
+}
+
+#[test]
+fn accepted_lists_keep_the_bound() {
+    let mut accepted_lists = 0;
+    for case in list_cases() {
+        if let Ok(accepted) = check(&case.list, print::PRINT_PAGE) {
+            hold_to_exact(&accepted, &case.list);
+            accepted_lists += 1;
+        }
+    }
+    assert_eq!(accepted_lists, 31);
+}

@@ -1,0 +1,37 @@
+//! The shapes that can be asked about.
+
+/// A line one pixel thick between two corners.
+#[derive(Clone, Copy, Debug, PartialEq, Eq)]
+pub struct Line {
+    /// Exact areas if true, the cheaper approximation if false.
+    pub exact: bool,
+    pub x0: i16,
+    pub y0: i16,
+    pub x1: i16,
+    pub y1: i16,
+}
+
+/// A filled circle, radius 1 to 255.
+#[derive(Clone, Copy, Debug, PartialEq, Eq)]
+pub struct Disc {
+    pub x: i16,
+    pub y: i16,
+    pub radius: u16,
+}
+
+/// A disc less the disc whose radius is smaller by the width; width 1 to the radius.
+#[derive(Clone, Copy, Debug, PartialEq, Eq)]
+pub struct Ring {
+    pub x: i16,
+    pub y: i16,
+    pub radius: u16,
+    pub width: u16,
+}
+
+/// Any of the three.
+#[derive(Clone, Copy, Debug, PartialEq, Eq)]
+pub enum Shape {
+    Line(Line),
+    Disc(Disc),
+    Ring(Ring),
+}

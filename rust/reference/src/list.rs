@@ -1,0 +1,139 @@
+//! A whole list: checking it, and drawing it on a lent page.
+
+use crate::format::{decode_header, Header, HEADER_LENGTH, LONGEST_LIST};
+use crate::page::{page_length, paint};
+use crate::reader::lawful_record;
+use crate::refusal::{Fault, Refusal};
+use crate::shape::{page_size_fault, Clip, Record, Setting, Shape};
+
+/// A shape with the clip and level in force for it.
+#[derive(Clone, Copy, Debug, PartialEq, Eq)]
+pub struct Drawing {
+    pub shape: Shape,
+    pub clip: Clip,
+    pub level: u8,
+}
+
+/// What an accepted list says.
+#[derive(Clone, Debug, PartialEq, Eq)]
+pub struct Accepted {
+    pub header: Header,
+    pub drawings: Vec<Drawing>,
+}
+
+#[derive(Clone, Copy, Debug, PartialEq, Eq)]
+pub struct Drawn {
+    pub width: u16,
+    pub height: u16,
+    pub touched: u64,
+}
+
+/// Tries the whole list, as it would be drawn on a page of `page_bytes` bytes.
+pub fn check(list: &[u8], page_bytes: usize) -> Result<Accepted, Refusal> {
+    let header = check_header(list, page_bytes).map_err(|fault| fault.at(0))?;
+    let records = check_records(list, &header)?;
+    Ok(Accepted {
+        header,
+        drawings: drawings(&header, &records),
+    })
+}
+
+/// 12, 5, 1, 2, 3, 21.
+fn check_header(list: &[u8], page_bytes: usize) -> Result<Header, Fault> {
+    if list.len() > LONGEST_LIST {
+        return Err(Fault::ListTooLong);
+    }
+    let header = decode_header(list)?;
+    if let Some(fault) = page_size_fault(header.width, header.height) {
+        return Err(fault);
+    }
+    if page_bytes < page_length(header.width, header.height) {
+        return Err(Fault::PageTooShort);
+    }
+    Ok(header)
+}
+
+/// The records before the end record: each tried 4, 5, then 7 to 11; last 6.
+fn check_records(list: &[u8], header: &Header) -> Result<Vec<Record>, Refusal> {
+    let mut records = Vec::new();
+    let mut place = HEADER_LENGTH;
+    loop {
+        let (record, length) = lawful_record(&list[place..], header.width, header.height)
+            .map_err(|fault| fault.at(place))?;
+        place += length;
+        if record != Record::End {
+            records.push(record);
+        } else if place < list.len() {
+            return Err(Fault::SurplusBytes.at(place));
+        } else {
+            return Ok(records);
+        }
+    }
+}
+
+/// Settings stay in force until the next of their kind.
+fn drawings(header: &Header, records: &[Record]) -> Vec<Drawing> {
+    let mut clip = Clip::whole(header.width, header.height);
+    let mut level = 255;
+    let mut drawings = Vec::new();
+    for record in records {
+        match *record {
+            Record::End => {}
+            Record::Setting(Setting::Clip(next)) => clip = next,
+            Record::Setting(Setting::Level(next)) => level = next,
+            Record::Shape(shape) => drawings.push(Drawing { shape, clip, level }),
+        }
+    }
+    drawings
+}
+
+/// Checks the list, fills the page with the background and draws every shape in order.
+pub fn draw_list(list: &[u8], page: &mut [u8]) -> Result<Drawn, Refusal> {
+    let accepted = check(list, page.len())?;
+    let Header {
+        width,
+        height,
+        background,
+    } = accepted.header;
+    page[..page_length(width, height)].fill(background);
+    let mut touched = 0;
+    for drawing in &accepted.drawings {
+        touched += paint(page, width, &drawing.clip, drawing.level, &drawing.shape);
+    }
+    Ok(Drawn {
+        width,
+        height,
+        touched,
+    })
+}
+
+#[cfg(test)]
+mod tests {
+    use super::*;
+    use crate::format::encode_header;
+
+    fn header() -> Vec<u8> {
+        encode_header(&Header {
+            width: 1,
+            height: 1,
+            background: 7,
+        })
+    }
+
+    #[test]
+    fn a_list_of_65536_bytes_is_read_to_its_end() {
+        let mut list = header();
+        while list.len() < LONGEST_LIST {
+            list.extend([2, 9]);
+        }
+        let missing_end = Fault::CutShort.at(LONGEST_LIST);
+        assert_eq!(check(&list, 1), Err(missing_end));
+        list.push(0);
+        assert_eq!(check(&list, 1), Err(Fault::ListTooLong.at(0)));
+    }
+
+    #[test]
+    fn a_bare_header_lacks_its_end() {
+        assert_eq!(check(&header(), 1), Err(Fault::CutShort.at(HEADER_LENGTH)));
+    }
+}

@@ -1,0 +1,29 @@
+//! What the print program writes for a list.
+
+use crate::list::{draw_list, Drawn};
+use std::fmt::Write;
+
+/// Bytes of the print program's page.
+pub const PRINT_PAGE: usize = 65_536;
+const LEVELS_A_LINE: usize = 16;
+
+/// The page as plain PGM, or the refusal.
+pub fn print(list: &[u8]) -> String {
+    let mut page = vec![0; PRINT_PAGE];
+    match draw_list(list, &mut page) {
+        Ok(drawn) => plain_pgm(&drawn, &page),
+        Err(refusal) => format!("refused {} at {}\n", refusal.number, refusal.place),
+    }
+}
+
+fn plain_pgm(drawn: &Drawn, page: &[u8]) -> String {
+    let (width, height) = (usize::from(drawn.width), usize::from(drawn.height));
+    let mut text = format!("P2\n# touched {}\n{width} {height}\n255\n", drawn.touched);
+    for row in page.chunks(width).take(height) {
+        for line in row.chunks(LEVELS_A_LINE) {
+            let levels: Vec<String> = line.iter().map(u8::to_string).collect();
+            writeln!(text, "{}", levels.join(" ")).expect("a string takes all");
+        }
+    }
+    text
+}

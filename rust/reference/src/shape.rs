@@ -1,0 +1,139 @@
+//! Shapes, clips and records, and the first fault of each.
+
+use crate::refusal::Fault;
+
+pub const LOWEST_COORDINATE: i16 = -4096;
+pub const HIGHEST_COORDINATE: i16 = 4095;
+pub const LARGEST_SIDE: u16 = 1024;
+pub const LARGEST_RADIUS: u16 = 255;
+
+#[derive(Clone, Copy, Debug, PartialEq, Eq)]
+pub struct Line {
+    pub exact: bool,
+    pub x0: i16,
+    pub y0: i16,
+    pub x1: i16,
+    pub y1: i16,
+}
+
+#[derive(Clone, Copy, Debug, PartialEq, Eq)]
+pub struct Disc {
+    pub x: i16,
+    pub y: i16,
+    pub radius: u16,
+}
+
+#[derive(Clone, Copy, Debug, PartialEq, Eq)]
+pub struct Ring {
+    pub x: i16,
+    pub y: i16,
+    pub radius: u16,
+    pub width: u16,
+}
+
+#[derive(Clone, Copy, Debug, PartialEq, Eq)]
+pub enum Shape {
+    Line(Line),
+    Disc(Disc),
+    Ring(Ring),
+}
+
+/// Keeps the pixels with x0 ≤ x < x1 and y0 ≤ y < y1.
+#[derive(Clone, Copy, Debug, PartialEq, Eq)]
+pub struct Clip {
+    pub x0: u16,
+    pub y0: u16,
+    pub x1: u16,
+    pub y1: u16,
+}
+
+#[derive(Clone, Copy, Debug, PartialEq, Eq)]
+pub enum Setting {
+    Clip(Clip),
+    Level(u8),
+}
+
+#[derive(Clone, Copy, Debug, PartialEq, Eq)]
+pub enum Record {
+    End,
+    Setting(Setting),
+    Shape(Shape),
+}
+
+/// 3 unless both sides are from 1 to 1,024.
+pub fn page_size_fault(width: u16, height: u16) -> Option<Fault> {
+    let lawful = |side: u16| (1..=LARGEST_SIDE).contains(&side);
+    (!lawful(width) || !lawful(height)).then_some(Fault::PageSize)
+}
+
+/// 7 if any of the numbers is outside the range of coordinates.
+pub fn coordinate_fault(coordinates: &[i16]) -> Option<Fault> {
+    let lawful = |c: &i16| (LOWEST_COORDINATE..=HIGHEST_COORDINATE).contains(c);
+    (!coordinates.iter().all(lawful)).then_some(Fault::Coordinate)
+}
+
+fn radius_fault(radius: u16) -> Option<Fault> {
+    (radius == 0 || radius > LARGEST_RADIUS).then_some(Fault::Radius)
+}
+
+impl Shape {
+    /// The first of 7, 9, 10, 11 that the shape's kind has and the shape earns.
+    pub fn first_fault(&self) -> Option<Fault> {
+        self.coordinate_fault().or_else(|| self.form_fault())
+    }
+
+    /// 7 for a line's ends or a circle's centre.
+    pub fn coordinate_fault(&self) -> Option<Fault> {
+        match self {
+            Shape::Line(line) => coordinate_fault(&[line.x0, line.y0, line.x1, line.y1]),
+            Shape::Disc(disc) => coordinate_fault(&[disc.x, disc.y]),
+            Shape::Ring(ring) => coordinate_fault(&[ring.x, ring.y]),
+        }
+    }
+
+    /// 9 for a line; 10 for a disc; 10, then 11 for a ring.
+    pub fn form_fault(&self) -> Option<Fault> {
+        match self {
+            Shape::Line(line) => {
+                ((line.x0, line.y0) == (line.x1, line.y1)).then_some(Fault::EqualEnds)
+            }
+            Shape::Disc(disc) => radius_fault(disc.radius),
+            Shape::Ring(ring) => radius_fault(ring.radius).or_else(|| {
+                (ring.width == 0 || ring.width > ring.radius).then_some(Fault::RingWidth)
+            }),
+        }
+    }
+}
+
+impl Clip {
+    /// The clip that keeps every pixel of a page.
+    pub fn whole(width: u16, height: u16) -> Clip {
+        Clip {
+            x0: 0,
+            y0: 0,
+            x1: width,
+            y1: height,
+        }
+    }
+
+    pub fn keeps(&self, x: u16, y: u16) -> bool {
+        self.x0 <= x && x < self.x1 && self.y0 <= y && y < self.y1
+    }
+
+    /// 8 unless the corners are in order and on the page.
+    pub fn first_fault(&self, width: u16, height: u16) -> Option<Fault> {
+        let lawful = self.x0 <= self.x1 && self.x1 <= width && self.y0 <= self.y1;
+        (!lawful || self.y1 > height).then_some(Fault::Clip)
+    }
+}
+
+impl Record {
+    /// The first of 7 to 11 that the record's kind has and the record earns on this page.
+    pub fn first_fault(&self, width: u16, height: u16) -> Option<Fault> {
+        match self {
+            Record::End | Record::Setting(Setting::Level(_)) => None,
+            Record::Setting(Setting::Clip(clip)) => clip.first_fault(width, height),
+            Record::Shape(shape) => shape.first_fault(),
+        }
+    }
+}
