@@ -47,13 +47,17 @@ drawnD (disc d) = 512
 drawnD (ring g) = 512
 
 -- a query is tried 7 (shape, then pixel), 9, 10, 11
-abbrev pub queryFault : Shape → ℤ → ℤ → ℕ
+unfoldable pub queryFault : Shape → ℤ → ℤ → ℕ
 queryFault s x y =
     first ((offRange s, 7) ∷ (outside x || outside y, 7) ∷ (coincide s, 9) ∷ (offRadius s, 10) ∷ (offWidth s, 11) ∷ [])
 
--- n and d of the shape's own rule, or the number of the refusal
+-- n and d, unreduced, of the rule that the shape is drawn with
+abbrev pub shareOf : Shape → ℤ → ℤ → Share
+shareOf s x y = record { n = drawnN s x y; d = drawnD s }
+
+-- the answer to a query: n and d, or the number of the first refusal
 abbrev pub answerOf : ℕ → Share → Answer
 answerOf fault share = cond (eqb fault 0) (Covered share) (Refused fault)
 
 abbrev pub queried : Shape → ℤ → ℤ → Answer
-queried s x y = answerOf (queryFault s x y) (record { n = drawnN s x y; d = drawnD s })
+queried s x y = answerOf (queryFault s x y) (shareOf s x y)

@@ -2,18 +2,20 @@
 use mathlib.Core.Path.{_≡_, refl, sym, _∙_, ap, subst}
 use mathlib.Core.Bool.{Bool, true, false, cond, _&&_}
 use mathlib.Core.List.{List, [], _∷_}
+use mathlib.Core.Logic.{⊎-elim}
 use Prim.Native.Nat.{ℕ, zero, suc, _+_, _*_, _-_, _/_, _%_, _≤_, _<_}
 use native.Mathlib.Omega.{arith}
-use borrow.Author.Tests.{lt-ltb, le-ltb}
-use lib.Dec.{T, ltb}
+use borrow.Author.Tests.{lt-ltb, le-ltb, le-leb, lt-leb}
+use lib.Dec.{T, ltb, leb}
 use lib.IntN.{ℤ, pos, negsuc, natAbs, subℕ, _+ℤ_, _-ℤ_}
 use lib.Signed.{leZ, ltZ, nonNeg, mag, pos-natAbs}
 use mir.Syntax.{w16}
 use mir.Val.{SFits, toZ, ofZ}
 use mir.Facts.{toZ-ofZ, ofZ-toZ}
 use Rattle.numbers.specs.Order.{dist}
+use Rattle.numbers.proofs.Order.{lt-or-le}
 use Rattle.numbers.specs.Coordinate.{inRange, offsetOf, bitsOf, signedOf, wordOf, bytesOf}
-use Rattle.numbers.proofs.Integer.{Diff, plus, minus, diff-of, diff-pos, diff-add, diff-minus, diff-shift, diff-unique, diff-eq, diff-le, diff-abs, is-above, is-below, nonNeg-diff, sfits-diff}
+use Rattle.numbers.proofs.Integer.{Diff, plus, minus, diff-of, diff-pos, diff-add, diff-minus, diff-shift, diff-unique, diff-eq, diff-le, le-diff, diff-abs, is-above, is-below, nonNeg-diff, sfits-diff}
 
 -- ---- the range
 
@@ -48,6 +50,7 @@ offset-out z e = rw e
 
 -- in range the coordinate is its offset less 4,096
 pub record InRange (z : ℤ) : Type 0 where
+  pub test : inRange z ≡ true
   pub less : offsetOf z < 8192
   pub diff : Diff z (offsetOf z) 4096
 
@@ -56,7 +59,7 @@ unfolding offsetOf
 in-range z e =
     let t : T (inRange z) = subst T (sym e) tt in
     let k = diff-eq (pos-natAbs (z +ℤ pos 4096) (raised-nonNeg z t)) (diff-pos (natAbs (z +ℤ pos 4096))) (raised z t) in
-    record { less = rw e (omega (arith, range-parts z t)); diff = rw e (diff-shift (natAbs (z +ℤ pos 4096)) 4096 (diff-of z) (omega arith)) }
+    record { test = e; less = rw e (omega (arith, range-parts z t)); diff = rw e (diff-shift (natAbs (z +ℤ pos 4096)) 4096 (diff-of z) (omega arith)) }
 
 -- the range by the offset
 pub range-offset : (z : ℤ) → inRange z ≡ ltb (offsetOf z) 8192
@@ -134,3 +137,19 @@ flipped-back b h k =
 -- a local gives back the number that it was given
 pub offset-kept : {z : ℤ} {r : ℕ} → SFits w16 z → r ≡ offsetOf (toZ w16 (ofZ w16 z)) → r ≡ offsetOf z
 offset-kept f e = rw (toZ-ofZ f) at e
+
+-- a pixel of a page is in range
+pub pixel-in : (n : ℕ) → n ≤ 4095 → inRange (pos n) ≡ true
+pixel-in n h = rw (le-leb n 4095 h)
+
+pub pixel-offset : (n : ℕ) → n ≤ 4095 → offsetOf (pos n) ≡ n + 4096
+pixel-offset n h = sym (offset-in (pos n) (pixel-in n h))
+
+-- the order of two coordinates by their offsets
+pub le-offset : {x y : ℤ} → InRange x → InRange y → leZ x y ≡ leb (offsetOf x) (offsetOf y)
+le-offset {x} {y} p q =
+    go (leZ x y) (λ t. omega (arith, diff-le (p .diff) (q .diff) t)) (λ h. le-diff (p .diff) (q .diff) (omega arith))
+  where
+    go : (s : Bool) → (T s → offsetOf x ≤ offsetOf y) → (offsetOf x ≤ offsetOf y → T s) → s ≡ leb (offsetOf x) (offsetOf y)
+    go true f g = sym (le-leb (offsetOf x) (offsetOf y) (f tt))
+    go false f g = sym (lt-leb (offsetOf x) (offsetOf y) (⊎-elim (λ h. h) (λ h. absurd (g h)) (lt-or-le (offsetOf y) (offsetOf x))))

@@ -30,3 +30,15 @@ pub within-same : (p q b : Frac) → p .num * q .den ≡ q .num * p .den → Wit
 within-same p q b e =
     let k = simp ring at (ap (λ (x : ℕ). b .den * x) e) in
     (simp ring (omega arith), simp ring (omega arith))
+
+-- a wider bound
+pub within-wider : (p q a b : Frac) → 0 < a .den → a ≼ b → Within p q a → Within p q b
+within-wider p q a b pos h w = (wider p q (w .0), wider q p (w .1))
+  where
+    wider : (p q : Frac) → p ≼ q ⊕ a → p ≼ q ⊕ b
+    wider p q k =
+        le-of-mul-le-mul-left {k = a .den}
+        (let k′ = simp ring at (mul-le-mul-left (b .den) k) in
+        let h′ = simp ring at (mul-le-mul-left (p .den * q .den) h) in
+        simp ring (omega arith))
+        pos

@@ -6,7 +6,7 @@ pub record Frac : Type 0 where
   pub den : ℕ
 
 -- num over den
-infix 70 _over_
+infix 67 _over_
 abbrev pub _over_ : ℕ → ℕ → Frac
 n over d = record { num = n; den = d }
 

@@ -5,13 +5,14 @@ use mathlib.Core.Logic.{_⊎_, inl, inr, ⊎-elim}
 use mathlib.Core.List.{[], _∷_}
 use Prim.Native.Nat.{ℕ, _+_, _≤_, _<_}
 use native.Mathlib.Omega.{arith}
-use borrow.Author.Tests.{lt-ltb, le-ltb, eq-eqb, ne-eqb, not-false}
+use borrow.Author.Tests.{lt-ltb, le-ltb, eq-eqb, ne-eqb, not-false, ltb-false}
 use lib.Dec.{T, ltb, leb, eqb}
 use lib.IntN.{ℤ}
 use lib.Signed.{leZ}
 use mir.Syntax.{w16}
 use mir.Val.{SFits, toZ, ofZ}
 use mir.Facts.{toZ-ofZ}
+use Rattle.numbers.specs.Order.{dist}
 use Rattle.numbers.specs.Coordinate.{inRange, offsetOf}
 use Rattle.numbers.proofs.Order.{lt-or-le, eq-or-ne}
 use Rattle.numbers.proofs.Integer.{diff-le, le-diff}
@@ -42,8 +43,8 @@ T-both true b h = (tt, h)
 T-both false b h = absurd h
 
 -- a coordinate out of range has the offset 8,192
-off-offset : (z : ℤ) → outside z ≡ ltb 8191 (offsetOf z)
-off-offset z = ap not (range-offset z) ∙ go (lt-or-le (offsetOf z) 8192)
+pub outside-offset : (z : ℤ) → outside z ≡ ltb 8191 (offsetOf z)
+outside-offset z = ap not (range-offset z) ∙ go (lt-or-le (offsetOf z) 8192)
   where
     go : (offsetOf z < 8192) ⊎ (8192 ≤ offsetOf z) → not (ltb (offsetOf z) 8192) ≡ ltb 8191 (offsetOf z)
     go (inl h) = rw (lt-ltb (offsetOf z) 8192 h, le-ltb 8191 (offsetOf z) (omega arith))
@@ -75,7 +76,7 @@ pub line-faults : (l : Line) (e : Ends) → e ≡ endsOf l
     ≡ cond (ltb 8191 (e .x0) || ltb 8191 (e .y0) || ltb 8191 (e .x1) || ltb 8191 (e .y1)) 7 (cond (eqb (e .x0) (e .x1) && eqb (e .y0) (e .y1)) 9 0)
 unfolding shapeFault offRange coincide offRadius offWidth
 line-faults l e h =
-    rw (h, ← off-offset (l .x0), ← off-offset (l .y0), ← off-offset (l .x1), ← off-offset (l .y1))
+    rw (h, ← outside-offset (l .x0), ← outside-offset (l .y0), ← outside-offset (l .x1), ← outside-offset (l .y1))
     (go (outside (l .x0)) (outside (l .y0)) (outside (l .x1)) (outside (l .y1)) refl refl refl refl)
   where
     go : (a b c d : Bool) → outside (l .x0) ≡ a → outside (l .y0) ≡ b → outside (l .x1) ≡ c → outside (l .y1) ≡ d
@@ -91,7 +92,7 @@ line-faults l e h =
 pub disc-faults : (d : Disc) (p : Point) → p ≡ pointOf (d .x) (d .y)
     → shapeFault (disc d) ≡ cond (ltb 8191 (p .x) || ltb 8191 (p .y)) 7 (cond (ltb (d .radius) 1 || ltb 255 (d .radius)) 10 0)
 unfolding shapeFault offRange coincide offRadius offWidth
-disc-faults d p h = rw (h, off-offset (d .x), off-offset (d .y))
+disc-faults d p h = rw (h, outside-offset (d .x), outside-offset (d .y))
 
 -- those of a ring: its disc, then its width
 pub ring-faults : (g : Ring)
@@ -104,3 +105,80 @@ ring-faults g = go (outside (g .x) || outside (g .y)) (ltb (g .radius) 1 || ltb 
     go true b n = refl
     go false true n = refl
     go false false n = refl
+
+-- ---- what a shape without a refusal has
+
+pub record LawfulLine (l : Line) : Type 0 where
+  pub x0-in : InRange (l .x0)
+  pub y0-in : InRange (l .y0)
+  pub x1-in : InRange (l .x1)
+  pub y1-in : InRange (l .y1)
+  pub differ : 0 < dist (offsetOf (l .x0)) (offsetOf (l .x1)) + dist (offsetOf (l .y0)) (offsetOf (l .y1))
+
+apart : (a b c d : ℕ) → (eqb a b && eqb c d) ≡ false → 0 < dist a b + dist c d
+apart a b c d e = go (eq-or-ne a b) (eq-or-ne c d)
+  where
+    go : (a ≡ b) ⊎ (a ≡ b → ⊥) → (c ≡ d) ⊎ (c ≡ d → ⊥) → 0 < dist a b + dist c d
+    go (inl p) (inl q) = absurd (let z : _≡_ {A = ℕ} 0 1 = cc (eq-eqb a b p, eq-eqb c d q) in omega arith)
+    go (inl p) (inr q) = omega arith
+    go (inr p) q = omega arith
+
+pub line-lawful : (l : Line) → shapeFault (line l) ≡ 0 → LawfulLine l
+unfolding shapeFault offRange coincide offRadius offWidth
+line-lawful l = go (outside (l .x0)) (outside (l .y0)) (outside (l .x1)) (outside (l .y1)) (same (l .x0) (l .x1) && same (l .y0) (l .y1)) refl refl refl refl refl
+  where
+    go : (a b c d e : Bool) → outside (l .x0) ≡ a → outside (l .y0) ≡ b → outside (l .x1) ≡ c → outside (l .y1) ≡ d
+        → (same (l .x0) (l .x1) && same (l .y0) (l .y1)) ≡ e → _≡_ {A = ℕ} (cond (a || b || c || d) 7 (cond e 9 0)) 0 → LawfulLine l
+    go true b c d e h₀ h₁ h₂ h₃ h z = absurd (omega arith)
+    go false true c d e h₀ h₁ h₂ h₃ h z = absurd (omega arith)
+    go false false true d e h₀ h₁ h₂ h₃ h z = absurd (omega arith)
+    go false false false true e h₀ h₁ h₂ h₃ h z = absurd (omega arith)
+    go false false false false true h₀ h₁ h₂ h₃ h z = absurd (omega arith)
+    go false false false false false h₀ h₁ h₂ h₃ h z =
+        record {
+          x0-in = in-of h₀;
+          y0-in = in-of h₁;
+          x1-in = in-of h₂;
+          y1-in = in-of h₃;
+          differ =
+              apart (offsetOf (l .x0)) (offsetOf (l .x1)) (offsetOf (l .y0)) (offsetOf (l .y1))
+              (ap₂ _&&_ (sym (same-offset (in-of h₀) (in-of h₂))) (sym (same-offset (in-of h₁) (in-of h₃))) ∙ h);
+        }
+
+-- a circle with its centre in range and its radius from 1 to 255
+pub record LawfulCircle (x y : ℤ) (radius : ℕ) : Type 0 where
+  pub x-in : InRange x
+  pub y-in : InRange y
+  pub least : 1 ≤ radius
+  pub most : radius ≤ 255
+
+circle-lawful : (x y : ℤ) (radius n : ℕ) → cond (outside x || outside y) 7 (cond (ltb radius 1 || ltb 255 radius) 10 n) ≡ 0 → LawfulCircle x y radius × (n ≡ 0)
+circle-lawful x y radius n = go (outside x) (outside y) (ltb radius 1) (ltb 255 radius) refl refl refl refl
+  where
+    go : (a b c d : Bool) → outside x ≡ a → outside y ≡ b → ltb radius 1 ≡ c → ltb 255 radius ≡ d → cond (a || b) 7 (cond (c || d) 10 n) ≡ 0 → LawfulCircle x y radius × (n ≡ 0)
+    go true b c d h₀ h₁ h₂ h₃ z = absurd (omega arith)
+    go false true c d h₀ h₁ h₂ h₃ z = absurd (omega arith)
+    go false false true d h₀ h₁ h₂ h₃ z = absurd (omega arith)
+    go false false false true h₀ h₁ h₂ h₃ z = absurd (omega arith)
+    go false false false false h₀ h₁ h₂ h₃ z =
+        (record { x-in = in-of h₀; y-in = in-of h₁; least = omega (arith, ltb-false radius 1 h₂); most = omega (arith, ltb-false 255 radius h₃) }, z)
+
+pub disc-lawful : (d : Disc) → shapeFault (disc d) ≡ 0 → LawfulCircle (d .x) (d .y) (d .radius)
+unfolding shapeFault offRange coincide offRadius offWidth
+disc-lawful d z = circle-lawful (d .x) (d .y) (d .radius) 0 z .0
+
+pub record LawfulRing (g : Ring) : Type 0 where
+  pub circle : LawfulCircle (g .x) (g .y) (g .radius)
+  pub least : 1 ≤ g .width
+  pub most : g .width ≤ g .radius
+
+pub ring-lawful : (g : Ring) → shapeFault (ring g) ≡ 0 → LawfulRing g
+unfolding shapeFault offRange coincide offRadius offWidth
+ring-lawful g z =
+    let c = circle-lawful (g .x) (g .y) (g .radius) (cond (ltb (g .width) 1 || ltb (g .radius) (g .width)) 11 0) z in
+    go (ltb (g .width) 1) (ltb (g .radius) (g .width)) refl refl (c .0) (c .1)
+  where
+    go : (a b : Bool) → ltb (g .width) 1 ≡ a → ltb (g .radius) (g .width) ≡ b → LawfulCircle (g .x) (g .y) (g .radius) → _≡_ {A = ℕ} (cond (a || b) 11 0) 0 → LawfulRing g
+    go true b h₀ h₁ c z = absurd (omega arith)
+    go false true h₀ h₁ c z = absurd (omega arith)
+    go false false h₀ h₁ c z = record { circle = c; least = omega (arith, ltb-false (g .width) 1 h₀); most = omega (arith, ltb-false (g .radius) (g .width) h₁) }

@@ -1,0 +1,195 @@
+-- The closed rows are the rows of the two rules.
+use mathlib.Core.Path.{_≡_, refl, sym, _∙_, ap, ap₂}
+use mathlib.Core.Logic.{_⊎_, inl, inr, ⊎-elim}
+use mathlib.Core.Bool.{Bool, true, false, cond}
+use Prim.Native.Nat.{ℕ, zero, suc, _+_, _*_, _-_, _/_, _%_, _≤_, _<_}
+use native.Mathlib.Nat.{mul-le-mul, div-add-mod, mod-lt, div-eq-of-lt, mod-eq-of-lt}
+use native.Mathlib.Omega.{arith}
+use lib.Dec.{T}
+use lib.IntN.{ℤ, pos, negsuc, subℕ, _+ℤ_, _-ℤ_, +ℤ-comm, -ℤ-+ℤ-cancel, +ℤ-idr}
+use lib.Signed.{leZ}
+use Rattle.numbers.proofs.Order.{lt-or-le}
+use Rattle.numbers.proofs.Integer.{Diff, is-above, is-below, diff-of, diff-pos, diff-sub, diff-add, diff-minus, diff-shift, diff-unique, diff-le, le-diff}
+use Rattle.coverage.specs.Line.{F, levelRow, exactRow, exactWhole, rowOf, restOf, threeRows, excess, flatRows, crossedRows, approxRow}
+use Rattle.coverage.specs.Rows.{cutExcess, exactRows, approxRows, atRow}
+use Rattle.coverage.specs.declared.line.Rows.{Rows}
+use Rattle.coverage.proofs.Slant.{row-is}
+use Rattle.coverage.proofs.Bounds.{square-le-rest, lower-pos, middle-pos}
+
+-- what the rest of a column is below
+pub rest-lt : (l s i : ℕ) → 0 < l → restOf l s i < 2 * l
+unfolding restOf
+rest-lt l s i p = mod-lt (l + 2 * s * i) (omega arith)
+
+-- l + 2·s·i = 2·l·q + r
+pub column-is : (l s i : ℕ) → l + 2 * s * i ≡ 2 * l * rowOf l s i + restOf l s i
+unfolding rowOf restOf
+column-is l s i = sym (div-add-mod (l + 2 * s * i) (2 * l))
+
+-- no column's row is above l
+pub row-le : (l s i : ℕ) → s ≤ l → i < l → rowOf l s i ≤ l
+row-le l s i h k = go (lt-or-le l (rowOf l s i))
+  where
+    go : (l < rowOf l s i) ⊎ (rowOf l s i ≤ l) → rowOf l s i ≤ l
+    go (inl m) =
+        absurd (omega (arith, column-is l s i, mul-le-mul {n₁ = l} {m₁ = suc l} {n₂ = l} (omega arith) m, mul-le-mul {n₁ = s} {m₁ = suc i} h k))
+    go (inr m) = m
+
+-- ---- exact, s above 0
+
+module _ (l s i q r : ℕ) (hs : suc s ≤ l) (hr : r < 2 * l) (col : l + 2 * suc s * i ≡ 2 * l * q + r) where
+  abbrev row : ℤ → ℤ
+  row j = F l (suc s) i j -ℤ F l (suc s) i (j +ℤ pos 1)
+
+  -- row q + k is k − 0 or 0 − k above row q
+  at : (k : ℤ) {m d : ℕ} → Diff k m d → Diff (pos q +ℤ k) (q + m) d
+  at k {m} {d} e = diff-shift (q + m) d (diff-add (diff-pos q) e) (omega arith)
+
+  abbrev t : ℕ
+  t = cutExcess l (suc s) r
+
+  abbrev rows : Rows
+  rows = exactRows l (suc s) r
+
+  slanted : (k : ℤ) → row (pos q +ℤ k) ≡ pos (atRow rows k)
+  unfolding atRow exactRows
+  slanted (pos zero) =
+      row-is l (suc s) i r 0 (r + 2 * suc s) r t 0 0 0 (rows .middle) (at (pos zero) (diff-pos 0)) (omega arith) (omega arith)
+      (omega (arith, square-le-rest l (suc s) r hs hr, middle-pos l (suc s) r hs hr (omega arith)))
+  slanted (pos (suc zero)) =
+      row-is l (suc s) i r (2 * l) t 0 0 0 0 0 (rows .upper) (at (pos 1) (diff-pos 1)) (omega arith) (omega arith) (omega arith)
+  slanted (pos (suc (suc c))) =
+      row-is l (suc s) i r (2 * l * suc (suc c)) 0 0 0 0 0 0 0 (at (pos (suc (suc c))) (diff-pos (suc (suc c)))) (omega arith) (omega arith) (omega arith)
+  slanted (negsuc zero) =
+      row-is l (suc s) i (r + 2 * l) 0 (r + 2 * l + 2 * suc s) (r + 2 * l) (r + 2 * suc s) r t 0 (rows .lower)
+      (at (negsuc 0) (diff-of (negsuc 0))) (omega arith) (omega arith)
+      (omega (arith, lower-pos l (suc s) r hs hr (omega arith)))
+  slanted (negsuc (suc c)) =
+      let w : ℕ = r + 2 * l * c in
+      row-is l (suc s) i (w + 4 * l) 0 (w + 4 * l + 2 * suc s) (w + 4 * l) (w + 2 * l + 2 * suc s) (w + 2 * l) (w + 2 * suc s) w 0
+      (at (negsuc (suc c)) (diff-of (negsuc (suc c)))) (omega arith) (omega arith) (omega arith)
+
+-- a row is q and the row less q
+from-row : (q : ℕ) (j : ℤ) → pos q +ℤ (j -ℤ pos q) ≡ j
+from-row q j = +ℤ-comm (pos q) (j -ℤ pos q) ∙ -ℤ-+ℤ-cancel j (pos q)
+
+-- ---- exact, s = 0: q is 0 and r is l
+pub level-column : (l i : ℕ) → 0 < l → (rowOf l 0 i ≡ 0) × (restOf l 0 i ≡ l)
+unfolding rowOf restOf
+level-column l i p = (div-eq-of-lt (omega arith), mod-eq-of-lt {n = l + 2 * 0 * i} {m = 2 * l} (omega arith) ∙ omega arith)
+
+level : (l r : ℕ) (j : ℤ) → levelRow j ≡ pos (atRow (exactRows l 0 r) j)
+unfolding levelRow atRow exactRows
+level l r (pos zero) = refl
+level l r (pos (suc zero)) = refl
+level l r (pos (suc (suc j))) = refl
+level l r (negsuc zero) = refl
+level l r (negsuc (suc j)) = refl
+
+-- ---- any exact row
+pub exact-closed : (l s i : ℕ) (j : ℤ) → 0 < l → s ≤ l → exactRow l s i j ≡ pos (atRow (exactRows l s (restOf l s i)) (j -ℤ pos (rowOf l s i)))
+unfolding exactRow
+exact-closed l zero i j p h =
+    level l (restOf l 0 i) j
+    ∙ ap (λ (k : ℤ). pos (atRow (exactRows l 0 (restOf l 0 i)) k)) (sym (ap (λ (q : ℕ). j -ℤ pos q) (level-column l i p .0) ∙ +ℤ-idr j))
+exact-closed l (suc s) i j p h =
+    let q : ℕ = rowOf l (suc s) i in
+    ap (λ (z : ℤ). F l (suc s) i z -ℤ F l (suc s) i (z +ℤ pos 1)) (sym (from-row q j))
+    ∙ slanted l s i q (restOf l (suc s) i) h (rest-lt l (suc s) i p) (column-is l (suc s) i) (j -ℤ pos q)
+
+-- ---- approximate, by the sign of t
+three-is : (c : Rows) {u m w : ℤ} → u ≡ pos (c .upper) → m ≡ pos (c .middle) → w ≡ pos (c .lower) → (k : ℤ) → threeRows u m w k ≡ pos (atRow c k)
+unfolding threeRows atRow
+three-is c e f g (pos zero) = f
+three-is c e f g (pos (suc zero)) = e
+three-is c e f g (pos (suc (suc k))) = refl
+three-is c e f g (negsuc zero) = g
+three-is c e f g (negsuc (suc k)) = refl
+
+module _ (l s r : ℕ) (hs : s ≤ l) (hr : r < 2 * l) where
+  excess-diff : Diff (excess l s r) (r + 2 * s) (2 * l)
+  unfolding excess
+  excess-diff = diff-shift (r + 2 * s) (2 * l) (diff-minus (diff-pos (r + 2 * s)) (diff-pos (2 * l))) (omega arith)
+
+  lowest-diff : Diff (pos (4 * l) -ℤ pos (2 * r) -ℤ pos (2 * s)) (4 * l) (2 * r + 2 * s)
+  lowest-diff = diff-shift (4 * l) (2 * r + 2 * s) (diff-minus (diff-minus (diff-pos (4 * l)) (diff-pos (2 * r))) (diff-pos (2 * s))) (omega arith)
+
+  flat : r + 2 * s ≤ 2 * l → (k : ℤ) → flatRows l s r k ≡ pos (atRow (approxRows l s r) k)
+  unfolding flatRows approxRows
+  flat h =
+      three-is (approxRows l s r) (ap pos (omega arith)) (ap pos (omega arith))
+      (diff-unique lowest-diff (diff-pos (approxRows l s r .lower)) (omega arith))
+
+  crossed : 2 * l < r + 2 * s → (k : ℤ) → crossedRows l s r k ≡ pos (atRow (approxRows l s r) k)
+  unfolding crossedRows approxRows
+  crossed h =
+      three-is (approxRows l s r)
+      (diff-unique excess-diff (diff-pos (cutExcess l s r)) (omega arith))
+      (diff-unique (diff-minus (diff-pos (4 * l)) (diff-pos (2 * s))) (diff-pos (approxRows l s r .middle)) (omega arith))
+      (diff-unique (diff-add lowest-diff excess-diff) (diff-pos (approxRows l s r .lower)) (omega arith))
+
+  abbrev byExcess : Bool → ℤ → ℤ
+  byExcess b = cond b (flatRows l s r) (crossedRows l s r)
+
+  by-excess : (k : ℤ) → byExcess (leZ (excess l s r) (pos 0)) k ≡ pos (atRow (approxRows l s r) k)
+  by-excess k = go (leZ (excess l s r) (pos 0)) (λ t. omega (arith, diff-le excess-diff (diff-pos 0) t)) (λ h. le-diff excess-diff (diff-pos 0) (omega arith))
+    where
+      go : (b : Bool) → (T b → r + 2 * s ≤ 2 * l) → (r + 2 * s ≤ 2 * l → T b) → byExcess b k ≡ pos (atRow (approxRows l s r) k)
+      go true f g = flat (f tt) k
+      go false f g = crossed (⊎-elim (λ h. h) (λ h. absurd (g h)) (lt-or-le (2 * l) (r + 2 * s))) k
+
+pub approx-closed : (l s i : ℕ) (j : ℤ) → 0 < l → s ≤ l → approxRow l s i j ≡ pos (atRow (approxRows l s (restOf l s i)) (j -ℤ pos (rowOf l s i)))
+unfolding approxRow
+approx-closed l s i j p h = by-excess l s (restOf l s i) h (rest-lt l s i p) (j -ℤ pos (rowOf l s i))
+
+-- ---- as the code computes them
+pub rows-level : (l s r : ℕ) → s ≡ 0 → exactRows l s r ≡ record { upper = 0; middle = 1; lower = 1 }
+unfolding exactRows
+rows-level l zero r e = refl
+rows-level l (suc s) r e = absurd (omega arith)
+
+pub rows-slanted : (l s r : ℕ) → 0 < s
+    → exactRows l s r
+    ≡ record {
+      upper = cutExcess l s r * cutExcess l s r;
+      middle = 4 * (s * (r + s)) - 2 * (cutExcess l s r * cutExcess l s r);
+      lower = 8 * (l * s) + cutExcess l s r * cutExcess l s r - 4 * (s * (r + s));
+    }
+unfolding exactRows
+rows-slanted l zero r h = absurd (omega arith)
+rows-slanted l (suc s) r h = refl
+
+pub whole-level : (l s : ℕ) → s ≡ 0 → exactWhole l s ≡ 2
+unfolding exactWhole
+whole-level l zero e = refl
+whole-level l (suc s) e = absurd (omega arith)
+
+pub whole-slanted : (l s : ℕ) → 0 < s → exactWhole l s ≡ 8 * (l * s)
+unfolding exactWhole
+whole-slanted l zero h = absurd (omega arith)
+whole-slanted l (suc s) h = omega arith
+
+-- row g − b above row q, by g + 1 − b
+module _ (c : Rows) (g b : ℕ) where
+  row-from : {k : ℤ} → Diff k g b → atRow c k ≡ atRow c (subℕ g b)
+  row-from e = ap (atRow c) (diff-unique e (diff-sub g b) (omega arith))
+
+  pub row-below : g + 1 < b → 0 ≡ atRow c (subℕ g b)
+  unfolding atRow
+  row-below h = row-from (is-below {n = suc (b - (g + 2))} (omega arith))
+
+  pub row-lower : g + 1 ≡ b → c .lower ≡ atRow c (subℕ g b)
+  unfolding atRow
+  row-lower h = row-from (is-below {n = 0} (omega arith))
+
+  pub row-middle : g ≡ b → c .middle ≡ atRow c (subℕ g b)
+  unfolding atRow
+  row-middle h = row-from (is-above {n = 0} (omega arith))
+
+  pub row-upper : g ≡ b + 1 → c .upper ≡ atRow c (subℕ g b)
+  unfolding atRow
+  row-upper h = row-from (is-above {n = 1} (omega arith))
+
+  pub row-above : b + 2 ≤ g → 0 ≡ atRow c (subℕ g b)
+  unfolding atRow
+  row-above h = row-from (is-above {n = suc (suc (g - (b + 2)))} (omega arith))

@@ -1,0 +1,10 @@
+-- Laws of the coverage rules.
+pub mod Slant
+pub mod Bounds
+pub mod Closed
+pub mod Column
+pub mod Framing
+pub mod Pixel
+pub mod Height
+pub mod Chord
+pub mod Query

@@ -1,0 +1,34 @@
+use Prim.Native.Nat.{ℕ, _+_, _*_, _-_, _/_}
+use native.Mathlib.Omega.{arith}
+use Rattle.numbers.proofs.Order.{square-le}
+use Rattle.coverage.proofs.Chord.{narrowed-up, narrowed-down}
+use borrow.Author.Needs.{needs}
+use Rattle.coverage.proofs.circle.halved.Statement.{statement}
+use Rattle.coverage.proofs.circle.halved.Tie as tie
+
+add-middle : tie.Need-add-middle
+add-middle c = search needs
+
+mul-odd : tie.Need-mul-odd
+mul-odd c = search needs
+
+sub-odd : tie.Need-sub-odd
+sub-odd c = search needs
+
+mul-if1 : tie.Need-mul-if1
+mul-if1 c =
+    let middle = (c .args .low + c .args .high) / 2 in
+    omega (arith, square-le {a = 2 * middle - 1} {b = 131072} (omega arith))
+
+returns : tie.Need-returns
+returns c =
+    let a = c .before .args in
+    narrowed-up (a .low) (a .high) ((a .low + a .high) / 2) (a .m) (omega arith) (omega arith) (c .if1 .taken)
+
+returns-2 : tie.Need-returns-2
+returns-2 c =
+    let a = c .before .args in
+    narrowed-down (a .low) (a .high) ((a .low + a .high) / 2) (a .m) (omega arith) (omega arith) (c .if1 .left)
+
+pub halved-spec : {M : Type 1} → statement M
+halved-spec = tie.close (tie.spec add-middle mul-odd sub-odd mul-if1 returns returns-2)

@@ -1,0 +1,167 @@
+// The heights of a circle and the chord rule.
+ghost use mathlib.Core.Path.{_≡_};
+ghost use Prim.Native.Nat.{ℕ, _+_, _*_, _-_, _≤_, _<_, min};
+ghost use lib.ListN.{getD};
+ghost use Rattle.numbers.specs.Coordinate.{inRange};
+ghost use Rattle.shapes.specs.Limits.{shapeFault};
+ghost use Rattle.shapes.specs.declared.Shape.the-variants.{Disc as asDisc, Ring as asRing};
+ghost use mathlib.Core.Bool.{true};
+ghost use Rattle.coverage.specs.Circle.{halfRoot, heightOf, apart, chords, Narrowed};
+ghost use Rattle.coverage.specs.Coverage.{shareOf};
+
+// The whole number nearest to half the square root of m, searched downwards from y.
+fn half_root(y: u64, m: u64) -> u64
+    requires { ⌜ y ≤ 65536 ⌝ }
+    ensures { λ r. ⌜ r ≡ halfRoot y m ⌝ }
+{
+    let mut t = y;
+    while 0 < t {
+        let odd = 2 * t - 1;
+        if odd * odd <= m {
+            return t;
+        }
+        t -= 1;
+    }
+    t
+}
+
+// Where the search for the next height starts: heights fall faster and faster, so the last step leads to just above it.
+// The start is tested, and y, which is above every later height, stands in for one that is too low.
+fn search_start(y: u64, step: u64, m: u64) -> u64
+    requires { ⌜ (y ≤ 65536) × (m < (2 * y + 1) * (2 * y + 1)) ⌝ }
+    ensures { λ r. ⌜ (r ≤ y) × (m < (2 * r + 1) * (2 * r + 1)) ⌝ }
+{
+    if step == 0 {
+        return y;
+    }
+    if y < step {
+        return y;
+    }
+    let t = y - step + 1;
+    let odd = 2 * t + 1;
+    if m < odd * odd { t } else { y }
+}
+
+// The heights of the circle of a radius, at 0 to 256.
+pub fn heights(radius: u64) -> [u32; 257]
+    requires { ⌜ radius ≤ 255 ⌝ }
+    ensures { λ hs. ⌜ ((k : ℕ) → getD hs k 0 ≡ heightOf radius k) ⌝ }
+{
+    let mut hs = [0u32; 257];
+    let mut y = 256 * radius;
+    let mut step: u64 = 0;
+    let mut k: u64 = 0;
+    while k < radius {
+        let m = 262144 * (radius * radius - k * k);
+        let next = half_root(search_start(y, step, m), m);
+        hs[k as usize] = next as u32;
+        step = y - next;
+        y = next;
+        k += 1;
+    }
+    hs
+}
+
+// What a root is known to lie between: at least low, and below high.
+struct Bracket {
+    low: u64,
+    high: u64,
+}
+
+// Half of a bracket, the one with the root.
+fn halved(low: u64, high: u64, m: u64) -> Bracket
+    requires { ⌜ (low + 1 < high) × (high ≤ 65537) ⌝ }
+    ensures { λ r. ⌜ Narrowed low high m (r .low) (r .high) ⌝ }
+{
+    let middle = (low + high) / 2;
+    let odd = 2 * middle - 1;
+    if odd * odd <= m {
+        Bracket { low: middle, high }
+    } else {
+        Bracket { low, high: middle }
+    }
+}
+
+// One height of the circle of a radius.
+pub fn height_at(radius: u64, k: u64) -> u64
+    requires { ⌜ radius ≤ 255 ⌝ }
+    ensures { λ y. ⌜ y ≡ heightOf radius k ⌝ }
+{
+    if radius <= k {
+        return 0;
+    }
+    let m = 262144 * (radius * radius - k * k);
+    let mut low: u64 = 0;
+    let mut high = 256 * radius + 1;
+    while low + 1 < high {
+        let next = halved(low, high, m);
+        low = next.low;
+        high = next.high;
+    }
+    low
+}
+
+// How far a pixel is from the centre, by their offsets.
+pub fn apart_of(c: u64, x: u64) -> u64
+    ensures { λ r. ⌜ r ≡ apart c x ⌝ }
+{
+    if c <= x { x - c } else { c - x - 1 }
+}
+
+// A height less 256·n, brought into 0 to 256.
+pub fn chord_of(height: u64, n: u64) -> u64
+    requires { ⌜ n ≤ 65535 ⌝ }
+    ensures { λ r. ⌜ (r ≡ min (height - 256 * n) 256) × (r ≤ 256) ⌝ }
+{
+    let base = 256 * n;
+    if height <= base {
+        return 0;
+    }
+    if height - base < 256 {
+        height - base
+    } else {
+        256
+    }
+}
+
+// The coverage over 512 by a disc, at the distances a and b from its centre.
+fn chords_of(radius: u64, a: u64, b: u64) -> u64
+    requires { ⌜ (radius ≤ 255) × (a ≤ 8192) × (b ≤ 8192) ⌝ }
+    ensures { λ r. ⌜ (r ≡ chords (heightOf radius) a b) × (r ≤ 512) ⌝ }
+{
+    if a <= b {
+        chord_of(height_at(radius, a), b) + chord_of(height_at(radius, a + 1), b)
+    } else {
+        chord_of(height_at(radius, b), a) + chord_of(height_at(radius, b + 1), a)
+    }
+}
+
+// The coverage of a pixel by a disc.
+pub fn disc_share(disc: shapes::Disc, x: i16, y: i16) -> crate::Share
+    requires { ⌜ (shapeFault (asDisc disc) ≡ 0) × (inRange x ≡ true) × (inRange y ≡ true) ⌝ }
+    ensures { λ r. ⌜ r ≡ shareOf (asDisc disc) x y ⌝ }
+{
+    let c = shapes::point_of(disc.x, disc.y);
+    let p = shapes::point_of(x, y);
+    crate::Share {
+        n: chords_of(disc.radius as u64, apart_of(c.x, p.x), apart_of(c.y, p.y)),
+        d: 512,
+    }
+}
+
+// The coverage of a pixel by a ring.
+pub fn ring_share(ring: shapes::Ring, x: i16, y: i16) -> crate::Share
+    requires { ⌜ (shapeFault (asRing ring) ≡ 0) × (inRange x ≡ true) × (inRange y ≡ true) ⌝ }
+    ensures { λ r. ⌜ r ≡ shareOf (asRing ring) x y ⌝ }
+{
+    let c = shapes::point_of(ring.x, ring.y);
+    let p = shapes::point_of(x, y);
+    let a = apart_of(c.x, p.x);
+    let b = apart_of(c.y, p.y);
+    let outer = chords_of(ring.radius as u64, a, b);
+    let inner = chords_of((ring.radius - ring.width) as u64, a, b);
+    crate::Share {
+        n: outer - inner,
+        d: 512,
+    }
+}

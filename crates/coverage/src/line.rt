@@ -1,0 +1,215 @@
+// The coverage of a pixel by a line, under the exact and the approximate rule.
+ghost use mathlib.Core.Path.{_≡_};
+ghost use Prim.Native.Nat.{_+_, _*_, _-_, _≤_, _<_};
+ghost use lib.IntN.{subℕ};
+ghost use Rattle.coverage.specs.Line.{exactWhole, approxWhole, rowOf, restOf};
+ghost use Rattle.coverage.specs.Rows.{cutExcess, exactRows, approxRows, atRow};
+ghost use Rattle.coverage.specs.Frame.{Rising, Framed};
+ghost use Rattle.coverage.specs.Coverage.{shareOf};
+ghost use Rattle.numbers.specs.Coordinate.{inRange};
+ghost use Rattle.shapes.specs.Limits.{shapeFault};
+ghost use Rattle.shapes.specs.declared.Shape.the-variants.{Line as asShape};
+ghost use mathlib.Core.Bool.{true, cond};
+
+// A line in its own frame: the spans l and s, whether x and y are exchanged, whether rows are mirrored, and the offsets of the
+// first end after the exchange.
+pub struct Frame {
+    pub l: u64,
+    pub s: u64,
+    pub steep: bool,
+    pub falls: bool,
+    pub x: u64,
+    pub y: u64,
+}
+
+// What the three rows of a column have.
+pub struct Rows {
+    pub upper: u64,
+    pub middle: u64,
+    pub lower: u64,
+}
+
+// The row q and the rest r of a column.
+pub struct Crossing {
+    pub q: u64,
+    pub r: u64,
+}
+
+// The frame of ends in which x rises.
+fn rising_frame(steep: bool, x0: u64, y0: u64, x1: u64, y1: u64) -> Frame
+    requires { ⌜ x0 ≤ x1 ⌝ }
+    ensures { λ r. ⌜ Rising steep x0 y0 x1 y1 r ⌝ }
+{
+    Frame {
+        l: x1 - x0,
+        s: numbers::distance(y0, y1),
+        steep,
+        falls: y1 < y0,
+        x: x0,
+        y: y0,
+    }
+}
+
+// The frame of a line. Equal spans: x counts as the longer.
+pub fn frame_of(line: shapes::Line) -> Frame
+    requires { ⌜ shapeFault (asShape line) ≡ 0 ⌝ }
+    ensures { λ r. ⌜ Framed line r ⌝ }
+{
+    let e = shapes::ends_of(line);
+    if numbers::distance(e.x0, e.x1) < numbers::distance(e.y0, e.y1) {
+        if e.y0 <= e.y1 {
+            return rising_frame(true, e.y0, e.x0, e.y1, e.x1);
+        }
+        return rising_frame(true, e.y1, e.x1, e.y0, e.x0);
+    }
+    if e.x0 <= e.x1 {
+        return rising_frame(false, e.x0, e.y0, e.x1, e.y1);
+    }
+    rising_frame(false, e.x1, e.y1, e.x0, e.y0)
+}
+
+// a or b.
+fn either(first: bool, a: u64, b: u64) -> u64
+    ensures { λ r. ⌜ r ≡ cond first a b ⌝ }
+{
+    if first { a } else { b }
+}
+
+// The row and the rest of column i.
+pub fn crossing_at(l: u64, s: u64, i: u64) -> Crossing
+    requires { ⌜ (l ≤ 8191) × (s ≤ l) × (i < l) ⌝ }
+    ensures { λ p. ⌜ (p .q ≡ rowOf l s i) × (p .r ≡ restOf l s i) × (p .q ≤ l) × (p .r < 2 * l) ⌝ }
+{
+    let u = l + numbers::product(2 * s, i);
+    Crossing {
+        q: u / (2 * l),
+        r: numbers::remainder(u, 2 * l),
+    }
+}
+
+// t where it is positive, else 0.
+fn cut_excess(l: u64, s: u64, r: u64) -> u64
+    requires { ⌜ (l ≤ 8191) × (s ≤ l) × (r < 2 * l) ⌝ }
+    ensures { λ t. ⌜ t ≡ cutExcess l s r ⌝ }
+{
+    if 2 * l < r + 2 * s {
+        r + 2 * s - 2 * l
+    } else {
+        0
+    }
+}
+
+// The rows of a column under the exact rule, s above 0.
+fn slanted_rows(l: u64, s: u64, r: u64) -> Rows
+    requires { ⌜ (0 < s) × (l ≤ 8191) × (s ≤ l) × (r < 2 * l) ⌝ }
+    ensures { λ c. ⌜ c ≡ exactRows l s r ⌝ }
+{
+    let t = cut_excess(l, s, r);
+    let square = numbers::product(t, t);
+    let rise = 4 * numbers::product(s, r + s);
+    let whole = 8 * numbers::product(l, s);
+    Rows {
+        upper: square,
+        middle: rise - 2 * square,
+        lower: whole + square - rise,
+    }
+}
+
+// The rows of a column under the approximate rule.
+fn approximate_rows(l: u64, s: u64, r: u64) -> Rows
+    requires { ⌜ (l ≤ 8191) × (s ≤ l) × (r < 2 * l) ⌝ }
+    ensures { λ c. ⌜ c ≡ approxRows l s r ⌝ }
+{
+    let t = cut_excess(l, s, r);
+    let rise = 2 * (r + s);
+    Rows {
+        upper: t,
+        middle: rise - 2 * t,
+        lower: 4 * l + t - rise,
+    }
+}
+
+// The rows of a column under one of the rules.
+pub fn rows_of(exact: bool, l: u64, s: u64, r: u64) -> Rows
+    requires { ⌜ (l ≤ 8191) × (s ≤ l) × (r < 2 * l) ⌝ }
+    ensures { λ c. ⌜ c ≡ cond exact (exactRows l s r) (approxRows l s r) ⌝ }
+{
+    if exact {
+        if s == 0 {
+            return Rows {
+                upper: 0,
+                middle: 1,
+                lower: 1,
+            };
+        }
+        return slanted_rows(l, s, r);
+    }
+    approximate_rows(l, s, r)
+}
+
+// What the rows add up to, the denominator of the coverage.
+pub fn whole_of(exact: bool, l: u64, s: u64) -> u64
+    requires { ⌜ (l ≤ 8191) × (s ≤ l) ⌝ }
+    ensures { λ d. ⌜ d ≡ cond exact (exactWhole l s) (approxWhole l) ⌝ }
+{
+    if exact {
+        if s == 0 {
+            return 2;
+        }
+        return 8 * numbers::product(l, s);
+    }
+    4 * l
+}
+
+// What the row g − base above row q has.
+fn row_at(rows: Rows, g: u64, base: u64) -> u64
+    requires { ⌜ g ≤ 65535 ⌝ }
+    ensures { λ n. ⌜ n ≡ atRow rows (subℕ g base) ⌝ }
+{
+    if g + 1 < base {
+        return 0;
+    }
+    let k = g + 1 - base;
+    match k {
+        0 => rows.lower,
+        1 => rows.middle,
+        2 => rows.upper,
+        _ => 0,
+    }
+}
+
+// The row, in the frame, of a pixel whose offset across the longer span is b; 8,192 is row 0.
+fn biased_row(f: Frame, b: u64) -> u64
+    requires { ⌜ (f .y ≤ 8191) × (b ≤ 8191) ⌝ }
+    ensures { λ g. ⌜ g ≡ cond (f .falls) (f .y + 8191 - b) (b + 8192 - f .y) ⌝ }
+{
+    if f.falls {
+        f.y + 8191 - b
+    } else {
+        b + 8192 - f.y
+    }
+}
+
+// The coverage of a pixel by a line.
+pub fn line_share(line: shapes::Line, x: i16, y: i16) -> crate::Share
+    requires { ⌜ (shapeFault (asShape line) ≡ 0) × (inRange x ≡ true) × (inRange y ≡ true) ⌝ }
+    ensures { λ r. ⌜ r ≡ shareOf (asShape line) x y ⌝ }
+{
+    let f = frame_of(line);
+    let d = whole_of(line.exact, f.l, f.s);
+    let p = shapes::point_of(x, y);
+    let a = either(f.steep, p.y, p.x);
+    if a < f.x {
+        return crate::Share { n: 0, d };
+    }
+    if f.x + f.l <= a {
+        return crate::Share { n: 0, d };
+    }
+    let c = crossing_at(f.l, f.s, a - f.x);
+    let rows = rows_of(line.exact, f.l, f.s, c.r);
+    let g = biased_row(f, either(f.steep, p.x, p.y));
+    crate::Share {
+        n: row_at(rows, g, 8192 + c.q),
+        d,
+    }
+}
