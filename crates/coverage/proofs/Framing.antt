@@ -68,6 +68,10 @@ turned-in w = record { x0-in = w .y0-in; y0-in = w .x0-in; x1-in = w .y1-in; y1-
 pub back-in : {e : Ends} → EndsIn e → EndsIn (back e)
 back-in w = record { x0-in = w .x1-in; y0-in = w .y1-in; x1-in = w .x0-in; y1-in = w .y0-in }
 
+pub span-le : (n : Line) → shorter n ≤ longer n
+unfolding shorter longer
+span-le n = omega arith
+
 -- the order in which x rises
 pub forward : {e : Ends} → EndsIn e → offsetOf (e .x0) ≤ offsetOf (e .x1) → rising e ≡ e
 unfolding rising
@@ -98,6 +102,10 @@ module _ (n : Line) (w : LawfulLine n) where
   span-y : spanY n ≡ along
   unfolding spanY
   span-y = omega (arith, offset-dist (w .y1-in) (w .y0-in))
+
+  pub some-span : 0 < longer n
+  unfolding longer
+  some-span = omega (arith, w .differ, span-x, span-y)
 
   -- the spans and the ends of the frame
   record Spans (t : Bool) (l s : ℕ) (e : Ends) : Type 0 where

@@ -127,3 +127,10 @@ height-between R k h =
     between x y some (inr low) high =
         let e = ap (λ (z : ℕ). z * z) (odd y some) in
         record { some = some; low = omega (arith, e); high = high }
+
+-- a height is found by its two odd squares
+pub height-is : (R k y : ℕ) → y ≤ 256 * R → (2 * y - 1) * (2 * y - 1) ≤ 262144 * (R * R - k * k) → 262144 * (R * R - k * k) < (2 * y + 1) * (2 * y + 1) → heightOf R k ≡ y
+unfolding heightOf
+height-is R k y h low high =
+    let m = 262144 * (R * R - k * k) in
+    half-root-from (256 * R) m y h high ∙ half-root-here y m low

@@ -8,3 +8,5 @@ pub mod Pixel
 pub mod Height
 pub mod Chord
 pub mod Query
+pub mod Soundness
+pub mod Strokes

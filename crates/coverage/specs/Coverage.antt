@@ -1,9 +1,10 @@
 -- The coverage of a pixel by a shape, and what a coverage query answers.
 use mathlib.Core.Bool.{Bool, cond, _||_}
 use mathlib.Core.List.{List, [], _∷_}
-use Prim.Native.Nat.{ℕ}
+use Prim.Native.Nat.{ℕ, _*_}
 use lib.Dec.{ltb, eqb}
 use lib.IntN.{ℤ, pos, negsuc, natAbs}
+use Rattle.numbers.specs.Fraction.{Frac, _over_}
 use Rattle.shapes.specs.declared.Line.{Line}
 use Rattle.shapes.specs.declared.Shape.{Shape}
 use Rattle.shapes.specs.declared.Shape.the-variants.{Line as line, Disc as disc, Ring as ring}
@@ -45,6 +46,12 @@ unfoldable pub drawnD : Shape → ℕ
 drawnD (line n) = cond (n .exact) (exactD (line n)) (approxWhole (longer n))
 drawnD (disc d) = 512
 drawnD (ring g) = 512
+
+-- how far the two may be apart: s/(4l) for an approximate line
+unfoldable pub offBy : Shape → Frac
+offBy (line n) = cond (n .exact) (0 over 1) (shorter n over 4 * longer n)
+offBy (disc d) = 0 over 1
+offBy (ring g) = 0 over 1
 
 -- a query is tried 7 (shape, then pixel), 9, 10, 11
 unfoldable pub queryFault : Shape → ℤ → ℤ → ℕ

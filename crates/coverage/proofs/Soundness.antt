@@ -1,0 +1,114 @@
+-- What holds of every lawful shape at every pixel: no coverage is above the whole, both coverages touch the same pixels, and the one
+-- that is drawn is near the exact one.
+use mathlib.Core.Path.{_≡_, refl}
+use mathlib.Core.Bool.{Bool, true, false, cond}
+use mathlib.Core.Logic.{_↔_}
+use Prim.Native.Nat.{ℕ, zero, suc, _+_, _*_, _≤_, _<_}
+use native.Mathlib.Nat.{mul-pos}
+use native.Mathlib.Omega.{arith}
+use lib.Dec.{ltb}
+use lib.IntN.{ℤ, pos, negsuc, natAbs}
+use Rattle.numbers.specs.Fraction.{Frac, _over_, Within}
+use Rattle.numbers.proofs.Fraction.{within-same}
+use Rattle.shapes.specs.Limits.{shapeFault}
+use Rattle.shapes.specs.declared.Line.{Line}
+use Rattle.shapes.specs.declared.Shape.{Shape}
+use Rattle.shapes.specs.declared.Shape.the-variants.{Line as line, Disc as disc, Ring as ring}
+use Rattle.shapes.proofs.Limits.{LawfulLine, line-lawful}
+use Rattle.coverage.specs.Line.{exactRow, exactWhole, approxRow, approxWhole}
+use Rattle.coverage.specs.Frame.{longer, shorter, columnOf, frameRow}
+use Rattle.coverage.specs.Coverage.{inColumns, lineAt, exactN, exactD, drawnN, drawnD, offBy}
+use Rattle.coverage.proofs.Column.{exact-le, approx-le, same-touched, near}
+use Rattle.coverage.proofs.Framing.{some-span, span-le}
+use Rattle.coverage.proofs.Chord.{disc-le, ring-le}
+
+-- a relation that holds of 0 and 0, and in every column
+columns : (R : ℕ → ℕ → Type 0) (l : ℕ) (e a : ℕ → ℤ) → R 0 0 → ((i : ℕ) → R (natAbs (e i)) (natAbs (a i))) → (z : ℤ) → R (natAbs (inColumns l e z)) (natAbs (inColumns l a z))
+unfolding inColumns
+columns R l e a none each (pos i) = go (ltb i l)
+  where
+    go : (t : Bool) → R (natAbs (cond t (e i) (pos 0))) (natAbs (cond t (a i) (pos 0)))
+    go true = each i
+    go false = none
+columns R l e a none each (negsuc i) = none
+
+whole-pos : (l s : ℕ) → 0 < l → 0 < exactWhole l s
+unfolding exactWhole
+whole-pos l zero h = omega arith
+whole-pos l (suc s) h = mul-pos {m = 8 * l} {n = suc s} (omega arith) (omega arith)
+
+module _ (n : Line) (w : LawfulLine n) (x y : ℤ) where
+  abbrev l : ℕ
+  l = longer n
+
+  abbrev s : ℕ
+  s = shorter n
+
+  long : 0 < l
+  long = some-span n w
+
+  both : (R : ℕ → ℕ → Type 0) → R 0 0 → ((i : ℕ) → R (natAbs (exactRow l s i (frameRow n x y))) (natAbs (approxRow l s i (frameRow n x y))))
+      → R (lineAt exactRow n x y) (lineAt approxRow n x y)
+  unfolding lineAt
+  both R none each = columns R l (λ i. exactRow l s i (frameRow n x y)) (λ i. approxRow l s i (frameRow n x y)) none each (columnOf n x y)
+
+  line-exact-le : lineAt exactRow n x y ≤ exactWhole l s
+  line-exact-le = both (λ (e a : ℕ). e ≤ exactWhole l s) (omega arith) (λ i. exact-le l s i (frameRow n x y) long (span-le n))
+
+  line-approx-le : lineAt approxRow n x y ≤ approxWhole l
+  line-approx-le = both (λ (e a : ℕ). a ≤ approxWhole l) (omega arith) (λ i. approx-le l s i (frameRow n x y) long (span-le n))
+
+  line-touched : (0 < lineAt exactRow n x y) ↔ (0 < lineAt approxRow n x y)
+  line-touched = both (λ (e a : ℕ). (0 < e) ↔ (0 < a)) (λ h. h, λ h. h) (λ i. same-touched l s i (frameRow n x y) long (span-le n))
+
+  line-near : Within (lineAt approxRow n x y over approxWhole l) (lineAt exactRow n x y over exactWhole l s) (s over 4 * l)
+  line-near =
+      both (λ (e a : ℕ). Within (a over approxWhole l) (e over exactWhole l s) (s over 4 * l))
+      (within-same (0 over approxWhole l) (0 over exactWhole l s) (s over 4 * l) (omega arith))
+      (λ i. near l s i (frameRow n x y) long (span-le n))
+
+-- n over d is the exact coverage and n′ over d′ the one that is drawn
+pub record Sound (n d n′ d′ : ℕ) (off : Frac) : Type 0 where
+  pub exact-le : n ≤ d
+  pub exact-pos : 0 < d
+  pub drawn-le : n′ ≤ d′
+  pub drawn-pos : 0 < d′
+  pub off-pos : 0 < off .den
+  pub touched : (0 < n) ↔ (0 < n′)
+  pub near : Within (n′ over d′) (n over d) off
+
+-- a shape that is drawn with its exact coverage
+same-sound : (n d : ℕ) → n ≤ d → 0 < d → Sound n d n d (0 over 1)
+same-sound n d h p =
+    record {
+      exact-le = h;
+      exact-pos = p;
+      drawn-le = h;
+      drawn-pos = p;
+      off-pos = omega arith;
+      touched = (λ k. k, λ k. k);
+      near = within-same (n over d) (n over d) (0 over 1) refl;
+    }
+
+line-sound : (n : Line) → LawfulLine n → (x y : ℤ) (t : Bool)
+    → Sound (lineAt exactRow n x y) (exactWhole (longer n) (shorter n)) (cond t (lineAt exactRow n x y) (lineAt approxRow n x y))
+    (cond t (exactWhole (longer n) (shorter n)) (approxWhole (longer n))) (cond t (0 over 1) (shorter n over 4 * longer n))
+unfolding approxWhole
+line-sound n w x y true = same-sound (lineAt exactRow n x y) (exactWhole (longer n) (shorter n)) (line-exact-le n w x y) (whole-pos (longer n) (shorter n) (long n w x y))
+line-sound n w x y false =
+    let p = long n w x y in
+    record {
+      exact-le = line-exact-le n w x y;
+      exact-pos = whole-pos (longer n) (shorter n) p;
+      drawn-le = line-approx-le n w x y;
+      drawn-pos = omega arith;
+      off-pos = omega arith;
+      touched = line-touched n w x y;
+      near = line-near n w x y;
+    }
+
+pub sound : (s : Shape) (x y : ℤ) → shapeFault s ≡ 0 → Sound (exactN s x y) (exactD s) (drawnN s x y) (drawnD s) (offBy s)
+unfolding exactN exactD drawnN drawnD offBy
+sound (line n) x y z = line-sound n (line-lawful n z) x y (n .exact)
+sound (disc d) x y z = same-sound (exactN (disc d) x y) 512 (disc-le (d .radius) (d .x) (d .y) x y) (omega arith)
+sound (ring g) x y z = same-sound (exactN (ring g) x y) 512 (ring-le (g .radius) (g .width) (g .x) (g .y) x y) (omega arith)

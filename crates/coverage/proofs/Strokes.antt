@@ -1,0 +1,77 @@
+-- The starred reference strokes, from the definitions, as rows under one theorem.
+use mathlib.Core.Path.{_≡_, refl}
+use mathlib.Core.Bool.{Bool, true, false}
+use Prim.Native.Nat.{ℕ, _+_, _-_, _*_}
+use lib.Dec.{T, leb, ltb, lit<, lit≤}
+use lib.IntN.{ℤ, pos, negsuc}
+use Rattle.shapes.specs.declared.Shape.the-variants.{Line as line, Disc as disc}
+use Rattle.coverage.specs.Edge.{P, slant}
+use Rattle.coverage.specs.Line.{leftHeight, rightHeight, F, levelRow, exactRow, exactWhole, rowOf, restOf, threeRows, excess, flatRows, crossedRows, approxRow, approxWhole}
+use Rattle.coverage.specs.Frame.{spanX, spanY, longer, shorter, steep, exchanged, rising, framed, falls, mirrored, columnOf, straightRow, frameRow}
+use Rattle.coverage.specs.Circle.{heightOf, folded, chord, chords, discAt}
+use Rattle.coverage.specs.Coverage.{inColumns, lineAt, exactN, exactD, drawnN, drawnD}
+use Rattle.coverage.proofs.Height.{height-is, height-beyond}
+
+-- a line from (0, 0) to (x1, y1), exact or not, has n over d at (x, y)
+abbrev Line : Bool → ℤ → ℤ → ℤ → ℤ → ℕ → ℕ → Type 0
+Line e x1 y1 x y n d =
+    let s = line (record { exact = e; x0 = pos 0; y0 = pos 0; x1 = x1; y1 = y1 }) in
+    _≡_ {A = ℕ × ℕ} (drawnN s x y, drawnD s) (n, d)
+
+-- a disc of radius R at (0, 0) has n over 512 at (x, y)
+abbrev Disc : ℕ → ℤ → ℤ → ℕ → Type 0
+Disc R x y n =
+    let s = disc (record { x = pos 0; y = pos 0; radius = R }) in
+    _≡_ {A = ℕ × ℕ} (drawnN s x y, drawnD s) (n, 512)
+
+-- the heights that those rows use
+height : (R k y : ℕ) → T (leb y (256 * R)) → T (leb ((2 * y - 1) * (2 * y - 1)) (262144 * (R * R - k * k))) → T (ltb (262144 * (R * R - k * k)) ((2 * y + 1) * (2 * y + 1)))
+    → heightOf R k ≡ y
+height R k y a b c = height-is R k y (lit≤ a) (lit≤ b) (lit< c)
+
+pub strokes :
+    Line true (pos 2) (pos 1) (pos 0) (pos 0) 12 16
+    × Line true (pos 2) (pos 1) (pos 0) (negsuc 0) 4 16
+    × Line true (pos 2) (pos 1) (pos 1) (pos 1) 4 16
+    × Line true (pos 2) (pos 1) (pos 1) (pos 0) 12 16
+    × Line true (pos 1) (pos 1) (pos 0) (pos 1) 1 8
+    × Line true (pos 1) (pos 1) (pos 0) (pos 0) 6 8
+    × Line true (pos 1) (pos 1) (pos 0) (negsuc 0) 1 8
+    × Line false (pos 1) (pos 1) (pos 0) (pos 1) 1 4
+    × Line false (pos 1) (pos 1) (pos 0) (pos 0) 2 4
+    × Line false (pos 1) (pos 1) (pos 0) (negsuc 0) 1 4
+    × Line true (pos 3) (pos 2) (pos 0) (pos 1) 1 48
+    × Line true (pos 3) (pos 2) (pos 0) (pos 0) 38 48
+    × Line true (pos 3) (pos 2) (pos 0) (negsuc 0) 9 48
+    × Line true (pos 3) (pos 2) (pos 2) (pos 2) 9 48
+    × Line true (pos 3) (pos 2) (pos 2) (pos 1) 38 48
+    × Line true (pos 3) (pos 2) (pos 2) (pos 0) 1 48
+    × Disc 1 (pos 0) (pos 0) 256
+    × (heightOf 2 1 ≡ 443)
+    × Disc 2 (pos 0) (pos 1) 443
+    × Disc 2 (pos 1) (pos 1) 187
+    × Disc 5 (pos 3) (pos 3) 256
+unfolding P slant leftHeight rightHeight F levelRow exactRow exactWhole rowOf restOf threeRows excess flatRows crossedRows approxRow approxWhole spanX spanY longer shorter steep exchanged rising framed falls mirrored columnOf straightRow frameRow folded chord chords discAt inColumns lineAt exactN exactD drawnN drawnD
+strokes = (
+  refl,
+  refl,
+  refl,
+  refl,
+  refl,
+  refl,
+  refl,
+  refl,
+  refl,
+  refl,
+  refl,
+  refl,
+  refl,
+  refl,
+  refl,
+  refl,
+  rw (height 1 0 256 tt tt tt, height-beyond 1 1 (lit≤ tt)),
+  height 2 1 443 tt tt tt,
+  rw (height 2 0 512 tt tt tt, height 2 1 443 tt tt tt),
+  rw (height 2 1 443 tt tt tt, height-beyond 2 2 (lit≤ tt)),
+  rw (height 5 3 1024 tt tt tt, height 5 4 768 tt tt tt),
+)

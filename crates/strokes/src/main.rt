@@ -1,0 +1,71 @@
+// Prints reference strokes that are at the edge of what a coverage query takes: one line each, n and d, or the refusal.
+use libc::STDOUT_FILENO;
+
+fn print_answer(answer: coverage::Answer) {
+    match answer {
+        coverage::Answer::Covered(share) => {
+            io::print_decimal(STDOUT_FILENO, share.n);
+            io::write_all(STDOUT_FILENO, b" ");
+            io::print_decimal(STDOUT_FILENO, share.d);
+        }
+        coverage::Answer::Refused(fault) => {
+            io::write_all(STDOUT_FILENO, b"refused ");
+            io::print_decimal(STDOUT_FILENO, fault as u64);
+        }
+    }
+    io::write_all(STDOUT_FILENO, b"\n");
+}
+
+fn print_line(exact: bool, x0: i16, y0: i16, x1: i16, y1: i16, x: i16, y: i16) {
+    let line = shapes::Line {
+        exact,
+        x0,
+        y0,
+        x1,
+        y1,
+    };
+    print_answer(coverage::coverage(shapes::Shape::Line(line), x, y));
+}
+
+fn print_disc(cx: i16, cy: i16, radius: u16, x: i16, y: i16) {
+    let disc = shapes::Disc {
+        x: cx,
+        y: cy,
+        radius,
+    };
+    print_answer(coverage::coverage(shapes::Shape::Disc(disc), x, y));
+}
+
+fn print_ring(cx: i16, cy: i16, radius: u16, width: u16, x: i16, y: i16) {
+    let ring = shapes::Ring {
+        x: cx,
+        y: cy,
+        radius,
+        width,
+    };
+    print_answer(coverage::coverage(shapes::Shape::Ring(ring), x, y));
+}
+
+fn main() {
+    // radius 255 is drawn, 256 and 0 are refused
+    print_disc(0, 0, 255, 0, 0);
+    print_disc(0, 0, 256, 0, 0);
+    print_disc(0, 0, 0, 0, 0);
+    // coordinate 4,095 is drawn, 4,096 is refused, of the shape and of the pixel
+    print_line(true, 4094, 4094, 4095, 4095, 4094, 4094);
+    print_line(true, 4094, 4094, 4096, 4095, 4094, 4094);
+    print_line(true, 4094, 4094, 4095, 4095, 4096, 4094);
+    print_disc(-4096, 0, 1, -4096, 0);
+    print_disc(-4097, 0, 1, -4096, 0);
+    // a level line: one half in rows 0 and -1
+    print_line(true, 0, 0, 5, 0, 2, 0);
+    print_line(true, 0, 0, 5, 0, 2, -1);
+    print_line(false, 0, 0, 5, 0, 2, 0);
+    // t = 0: two rows, and nothing in the third
+    print_line(false, 0, 0, 2, 1, 0, 1);
+    // ends that coincide; a ring's width at its limits
+    print_line(true, 7, 7, 7, 7, 7, 7);
+    print_ring(0, 0, 5, 5, 3, 3);
+    print_ring(0, 0, 5, 6, 3, 3);
+    print_ring(0, 0, 5, 0, 3, 3);
+}
