@@ -1,6 +1,6 @@
 // The heights of a circle and the chord rule.
 ghost use mathlib.Core.Path.{_≡_};
-ghost use Prim.Native.Nat.{ℕ, _+_, _*_, _-_, _≤_, _<_, min};
+ghost use Prim.Native.Nat.{ℕ, _+_, _*_, _-_, _^_, _≤_, _<_, min};
 ghost use lib.ListN.{getD};
 ghost use Rattle.numbers.specs.Coordinate.{inRange};
 ghost use Rattle.shapes.specs.Limits.{shapeFault};
@@ -25,11 +25,9 @@ fn half_root(y: u64, m: u64) -> u64
     t
 }
 
-// Where the search for the next height starts: heights fall faster and faster, so the last step leads to just above it.
-// The start is tested, and y, which is above every later height, stands in for one that is too low.
-fn search_start(y: u64, step: u64, m: u64) -> u64
-    requires { ⌜ (y ≤ 65536) × (m < (2 * y + 1) * (2 * y + 1)) ⌝ }
-    ensures { λ r. ⌜ (r ≤ y) × (m < (2 * r + 1) * (2 * r + 1)) ⌝ }
+// y less the last step, since heights fall faster and faster; one is given back for rounding.
+fn next_guess(y: u64, step: u64) -> u64
+    ensures { λ r. ⌜ r ≤ y ⌝ }
 {
     if step == 0 {
         return y;
@@ -37,7 +35,28 @@ fn search_start(y: u64, step: u64, m: u64) -> u64
     if y < step {
         return y;
     }
-    let t = y - step + 1;
+    y - step + 1
+}
+
+// t, lowered by Newton's rule while it is far above half the square root of m.
+fn lowered(t: u64, m: u64) -> u64
+    requires { ⌜ (t ≤ 65536) × (m < 2 ^ 40) ⌝ }
+    ensures { λ r. ⌜ r ≤ t ⌝ }
+{
+    let quarter = m / 4;
+    let mut z = t;
+    while quarter + 8 * z < z * z {
+        z = (z * z + quarter) / (2 * z) + 1;
+    }
+    z
+}
+
+// Where the search for the next height starts. The start is tested, and y, which is above every later height, stands in for one that is too low.
+fn search_start(y: u64, step: u64, m: u64) -> u64
+    requires { ⌜ (y ≤ 65536) × (m < (2 * y + 1) * (2 * y + 1)) ⌝ }
+    ensures { λ r. ⌜ (r ≤ y) × (m < (2 * r + 1) * (2 * r + 1)) ⌝ }
+{
+    let t = lowered(next_guess(y, step), m);
     let odd = 2 * t + 1;
     if m < odd * odd { t } else { y }
 }

@@ -1,0 +1,117 @@
+-- The box of a ring: a clip that is cut down to it draws the same.
+use mathlib.Core.Path.{_≡_, fun-ext}
+use mathlib.Core.Logic.{_⊎_, inl, inr}
+use mathlib.Core.List.{List}
+use Prim.Native.Nat.{ℕ, _+_, _-_, _≤_, _<_}
+use native.Mathlib.Nat.{le-trans}
+use native.Mathlib.Omega.{arith}
+use Rattle.page.specs.Blend.{inkOf}
+use Rattle.page.specs.Page.{inView, Lawful, Drawn}
+use Rattle.page.specs.declared.View.{View}
+use Rattle.page.proofs.Clip.{Inside, Outside, left-of, right-of, above, below, clip-ext, clip-shrink, clip-zero}
+use Rattle.page.proofs.Paint.{drawn-none, drawn-ext}
+use Rattle.coverage.specs.Circle.{heightOf, apart, chords}
+use Rattle.coverage.proofs.Height.{height-most, height-falls, height-rises}
+use Rattle.circles.specs.Circle.{discOn, ringOn}
+use Rattle.circles.specs.Row.{at, between, betweenOn, RingDrawn, Heights, Nested, Near, Ready, boxed}
+use Rattle.circles.specs.declared.rows.Ring.{Ring}
+use Rattle.circles.proofs.Chords.{chords-far, chords-none, heights-wider}
+use Rattle.circles.proofs.Place.{place-low, place-high, place-rises, before-place, from-place, between-places, apart-near, apart-left, apart-right}
+
+-- ---- the heights of circles
+
+pub heights-of : (R : ℕ) → Heights (heightOf R) R
+heights-of R = record { falls = height-falls R; most = height-most R }
+
+-- an array that holds them
+pub held : (hs : List ℕ) (R : ℕ) → ((k : ℕ) → at hs k ≡ heightOf R k) → at hs ≡ heightOf R
+held hs R h = fun-ext h
+
+pub nested-of : (R r : ℕ) → r ≤ R → R ≤ 255 → Nested (heightOf R) (heightOf r) r
+nested-of R r h k =
+    record { outer = heights-wider k (heights-of R); inner = heights-of r; small = omega arith; within = λ j. height-rises r R j h }
+
+-- nothing is covered from the radius on
+between-far : (R : ℕ) (Z : ℕ → ℕ) (a b : ℕ) → (R ≤ a) ⊎ (R ≤ b) → between (heightOf R) Z a b ≡ 0
+unfolding between
+between-far R Z a b (inl h) = omega (arith, chords-far (heights-of R) a b (omega arith))
+between-far R Z a b (inr h) = omega (arith, chords-far (heights-of R) a b (omega arith))
+
+-- ---- the box
+
+module _ (view : View) (ring : Ring) (R : ℕ) {size : ℕ} (law : Lawful view size) where
+  boxed-lawful : Lawful (boxed view ring R) size
+  boxed-lawful =
+      record {
+        w-least = law .w-least;
+        w-most = law .w-most;
+        h-most = law .h-most;
+        room = law .room;
+        x-order = place-rises (view .x0) (view .x1) (ring .cx - R) (ring .cx + R) (omega arith);
+        x-most = le-trans (place-high (view .x0) (view .x1) (ring .cx + R)) (law .x-most);
+        y-order = place-rises (view .y0) (view .y1) (ring .cy - R) (ring .cy + R) (omega arith);
+        y-most = le-trans (place-high (view .y0) (view .y1) (ring .cy + R)) (law .y-most);
+      }
+
+  boxed-near : R ≤ 255 → Near (boxed view ring R) ring
+  boxed-near h =
+      record {
+        columns = λ x p q. near (ring .cx) (x + 4096) (between-places _ _ (ring .cx - R) (ring .cx + R) x (law .x-order) p q);
+        rows = λ y p q. near (ring .cy) (y + 4096) (between-places _ _ (ring .cy - R) (ring .cy + R) y (law .y-order) p q);
+      }
+    where
+      near : (c x : ℕ) → (c - R ≤ x) × (x < c + R) → apart c x ≤ 255
+      near c x b = omega (arith, apart-near c R x (b .0) (b .1))
+
+  pub boxed-ready : ring .cx ≤ 8191 → ring .hole ≤ R → R ≤ 255
+      → Ready (boxed view ring R) size ring (heightOf R) (heightOf (ring .hole))
+  boxed-ready c h k = record { lawful = boxed-lawful; near = boxed-near k; nested = nested-of R (ring .hole) h k; centre = c }
+
+  module _ (Z : ℕ → ℕ) where
+    boxed-same : (x y : ℕ)
+        → inView (boxed view ring R) (betweenOn (heightOf R) Z ring) x y ≡ inView view (betweenOn (heightOf R) Z ring) x y
+    boxed-same =
+        let box = boxed view ring R in
+        clip-shrink (view .x0) (view .y0) (view .x1) (view .y1) (box .x0) (box .y0) (box .x1) (box .y1) (betweenOn (heightOf R) Z ring)
+        (place-low _ _ _ (law .x-order)) (place-low _ _ _ (law .y-order)) (place-high _ _ _) (place-high _ _ _) none
+      where
+        none : (x y : ℕ) → Inside (view .x0) (view .y0) (view .x1) (view .y1) x y
+            → Outside (boxed view ring R .x0) (boxed view ring R .y0) (boxed view ring R .x1) (boxed view ring R .y1) x y
+            → betweenOn (heightOf R) Z ring x y ≡ 0
+        none x y i (left-of h) = between-far R Z _ _ (inl (apart-left (ring .cx) R (x + 4096) (before-place _ _ _ x (i .left) h)))
+        none x y i (right-of h) = between-far R Z _ _ (inl (apart-right (ring .cx) R (x + 4096) (from-place _ _ _ x (i .right) h)))
+        none x y i (above h) = between-far R Z _ _ (inr (apart-left (ring .cy) R (y + 4096) (before-place _ _ _ y (i .top) h)))
+        none x y i (below h) = between-far R Z _ _ (inr (apart-right (ring .cy) R (y + 4096) (from-place _ _ _ y (i .bottom) h)))
+
+    pub boxed-drawn : {ink : ℕ → ℕ → ℕ} {l m : List ℕ} {t : ℕ}
+        → Drawn (view .w) (view .h) ink (inView (boxed view ring R) (betweenOn (heightOf R) Z ring)) l m t
+        → Drawn (view .w) (view .h) ink (inView view (betweenOn (heightOf R) Z ring)) l m t
+    boxed-drawn = drawn-ext (inView view (betweenOn (heightOf R) Z ring)) boxed-same
+
+    -- where the clip does not meet the box, nothing is drawn
+    pub boxed-empty : (ink : ℕ → ℕ → ℕ) (l : List ℕ)
+        → ((x y : ℕ) → Inside (boxed view ring R .x0) (boxed view ring R .y0) (boxed view ring R .x1) (boxed view ring R .y1) x y → ⊥)
+        → Drawn (view .w) (view .h) ink (inView view (betweenOn (heightOf R) Z ring)) l l 0
+    boxed-empty ink l none = boxed-drawn (drawn-none _ _ ink _ l (clip-zero _ _ _ _ _ (λ x y i. absurd (none x y i))))
+
+-- ---- discs and rings
+
+pub ring-drawn : (view : View) (R w : ℕ) (ring : Ring) {l m : List ℕ} {t : ℕ} → ring .hole ≡ R - w
+    → RingDrawn view ring (heightOf R) (heightOf (ring .hole)) (view .x0) (view .y0) (view .x1) (view .y1) l m t
+    → Drawn (view .w) (view .h) (inkOf (ring .level) 512) (inView view (ringOn R w (ring .cx) (ring .cy))) l m t
+unfolding between discOn ringOn
+ring-drawn view R w ring e =
+    drawn-ext (inView view (ringOn R w (ring .cx) (ring .cy)))
+    (clip-ext _ _ _ _ _ (ringOn R w (ring .cx) (ring .cy)) (λ x y i. rw e))
+
+-- a disc is a ring whose hole has radius 0
+pub disc-drawn : (view : View) (R : ℕ) (ring : Ring) {l m : List ℕ} {t : ℕ} → ring .hole ≡ 0
+    → RingDrawn view ring (heightOf R) (heightOf (ring .hole)) (view .x0) (view .y0) (view .x1) (view .y1) l m t
+    → Drawn (view .w) (view .h) (inkOf (ring .level) 512) (inView view (discOn R (ring .cx) (ring .cy))) l m t
+unfolding between discOn
+disc-drawn view R ring e =
+    drawn-ext (inView view (discOn R (ring .cx) (ring .cy)))
+    (clip-ext _ _ _ _ _ (discOn R (ring .cx) (ring .cy)) (λ x y i. rw e (none (apart (ring .cx) (x + 4096)) (apart (ring .cy) (y + 4096)))))
+  where
+    none : (a b : ℕ) → chords (heightOf R) a b - chords (heightOf 0) a b ≡ chords (heightOf R) a b
+    none a b = omega (arith, chords-none (heights-of 0) a b)

@@ -1,0 +1,143 @@
+-- Laws of a row that is drawn in stretches.
+use mathlib.Core.Path.{_≡_, sym, subst}
+use mathlib.Core.Logic.{_⊎_, inl, inr, ⊎-elim}
+use mathlib.Core.List.{List}
+use Prim.Native.Nat.{ℕ, _+_, _≤_, _<_}
+use native.Mathlib.Omega.{arith}
+use lib.ListN.{length}
+use Rattle.page.specs.Page.{clipped, Drawn}
+use Rattle.page.specs.declared.View.{View}
+use Rattle.page.proofs.Clip.{Inside, Outside, left-of, right-of, above, below, clip-ext, clip-shrink, clip-columns}
+use Rattle.page.proofs.Paint.{drawn-ext, drawn-join, drawn-length}
+use Rattle.coverage.specs.Circle.{apart}
+use Rattle.circles.specs.Row.{betweenOn, Ready, Measured, Band, place, leftOf, rightOf}
+use Rattle.circles.specs.declared.rows.Ring.{Ring}
+use Rattle.circles.specs.declared.cover.Widths.{Widths}
+use Rattle.circles.proofs.Place.{place-low, place-high, place-rises, before-place, from-place, between-places, apart-near, apart-left, apart-right, apart-left-near, apart-right-near}
+
+-- a page that was drawn on stands ready as before
+pub ready-after : {w h : ℕ} {ink n : ℕ → ℕ → ℕ} {l m : List ℕ} {t : ℕ} {view : View} {ring : Ring} {Y Z : ℕ → ℕ}
+    → Drawn w h ink n l m t
+    → Ready view (length l) ring Y Z
+    → Ready view (length m) ring Y Z
+ready-after {view = view} {ring} {Y} {Z} d = subst (λ (k : ℕ). Ready view k ring Y Z) (sym (drawn-length d))
+
+-- columns p to q drawn, q to r whole, and r to s drawn
+pub drawn-band : {w h : ℕ} {ink : ℕ → ℕ → ℕ} {l m k l′ : List ℕ} {t u v : ℕ} (n : ℕ → ℕ → ℕ) (d y p q r s : ℕ) → p ≤ q → q ≤ r → r ≤ s
+    → ((x : ℕ) → q ≤ x → x < r → n x y ≡ d)
+    → Drawn w h ink (clipped p y q (y + 1) n) l m t
+    → Drawn w h ink (clipped q y r (y + 1) (λ _ _. d)) m k u
+    → Drawn w h ink (clipped r y s (y + 1) n) k l′ v
+    → Drawn w h ink (clipped p y s (y + 1) n) l l′ (t + u + v)
+drawn-band n d y p q r s h₁ h₂ h₃ whole first middle last =
+    drawn-join (clipped p y s (y + 1) n) (clip-columns p y s (y + 1) r n (omega arith) h₃)
+    (drawn-join (clipped p y r (y + 1) n) (clip-columns p y r (y + 1) q n h₁ h₂) first
+    (drawn-ext (clipped q y r (y + 1) n) (clip-ext q y r (y + 1) (λ _ _. d) n same) middle))
+    last
+  where
+    same : (x z : ℕ) → Inside q y r (y + 1) x z → d ≡ n x z
+    same x z i =
+        let e : y ≡ z = omega arith in
+        rw (sym e) (sym (whole x (i .left) (i .right)))
+
+-- columns a to b are drawn with c to d, where the row has nothing in the others
+pub drawn-row : {w h : ℕ} {ink : ℕ → ℕ → ℕ} {l m : List ℕ} {t : ℕ} (n : ℕ → ℕ → ℕ) (a b c d y : ℕ) → a ≤ c → d ≤ b
+    → ((x : ℕ) → a ≤ x → x < b → (x < c) ⊎ (d ≤ x) → n x y ≡ 0)
+    → Drawn w h ink (clipped c y d (y + 1) n) l m t
+    → Drawn w h ink (clipped a y b (y + 1) n) l m t
+drawn-row n a b c d y h₁ h₂ none =
+    drawn-ext (clipped a y b (y + 1) n) (clip-shrink a y b (y + 1) c y d (y + 1) n h₁ (omega arith) h₂ (omega arith) nothing)
+  where
+    here : (x z : ℕ) → Inside a y b (y + 1) x z → (x < c) ⊎ (d ≤ x) → n x z ≡ 0
+    here x z i o =
+        let e : y ≡ z = omega arith in
+        rw (sym e) (none x (i .left) (i .right) o)
+
+    nothing : (x z : ℕ) → Inside a y b (y + 1) x z → Outside c y d (y + 1) x z → n x z ≡ 0
+    nothing x z i (left-of h) = here x z i (inl h)
+    nothing x z i (right-of h) = here x z i (inr h)
+    nothing x z i (above h) = absurd (omega arith)
+    nothing x z i (below h) = absurd (omega arith)
+
+-- a row whose widths are known
+module _ (Y Z : ℕ → ℕ) (view : View) (ring : Ring) (y : ℕ) (row : Widths)
+    (clip : view .x0 ≤ view .x1)
+    (rows : (view .y0 ≤ y) × (y < view .y1))
+    (m : Measured Y Z (apart (ring .cy) (y + 4096)) row)
+  where
+    rises : (c d : ℕ) → c ≤ d → place (view .x0) (view .x1) c ≤ place (view .x0) (view .x1) d
+    rises = place-rises (view .x0) (view .x1)
+
+    within : (c d x : ℕ) → place (view .x0) (view .x1) c ≤ x → x < place (view .x0) (view .x1) d → (c ≤ x + 4096) × (x + 4096 < d)
+    within c d x = between-places (view .x0) (view .x1) c d x clip
+
+    -- the band of a row that does not meet the inner circle
+    pub solid-band : row .inner ≡ 0
+        → Band Y Z view ring y
+        (leftOf view ring (row .outer)) (leftOf view ring (row .whole)) (rightOf view ring (row .whole)) (rightOf view ring (row .outer))
+    solid-band none =
+        record {
+          row = rows;
+          order = (place-low _ _ _ clip, rises _ _ (omega arith), rises _ _ (omega arith), rises _ _ (omega arith), place-high _ _ _);
+          whole =
+              λ x p q.
+              let b = within _ _ x p q in
+              m .whole-all _ (omega arith) (apart-near (ring .cx) (row .whole) (x + 4096) (b .0) (b .1));
+        }
+
+    -- the bands to the left and to the right of the hole
+    pub left-band : Band Y Z view ring y
+        (leftOf view ring (row .outer)) (leftOf view ring (row .whole)) (leftOf view ring (row .inner)) (leftOf view ring (row .hole))
+    left-band =
+        record {
+          row = rows;
+          order = (place-low _ _ _ clip, rises _ _ (omega arith), rises _ _ (omega arith), rises _ _ (omega arith), place-high _ _ _);
+          whole =
+              λ x p q.
+              let b = within _ _ x p q in
+              m .whole-all _
+              (apart-left (ring .cx) (row .inner) (x + 4096) (b .1))
+              (apart-left-near (ring .cx) (row .inner) (row .whole) (x + 4096) (b .0) (b .1));
+        }
+
+    pub right-band : Band Y Z view ring y
+        (rightOf view ring (row .hole)) (rightOf view ring (row .inner)) (rightOf view ring (row .whole)) (rightOf view ring (row .outer))
+    right-band =
+        record {
+          row = rows;
+          order = (place-low _ _ _ clip, rises _ _ (omega arith), rises _ _ (omega arith), rises _ _ (omega arith), place-high _ _ _);
+          whole =
+              λ x p q.
+              let b = within _ _ x p q in
+              m .whole-all _
+              (apart-right (ring .cx) (row .inner) (x + 4096) (b .0))
+              (apart-right-near (ring .cx) (row .inner) (row .whole) (x + 4096) (b .0) (b .1));
+        }
+
+    -- nothing is covered beyond the outer circle, nor in the hole
+    none-left : (x : ℕ) → view .x0 ≤ x → x < leftOf view ring (row .outer) → betweenOn Y Z ring x y ≡ 0
+    none-left x h k = m .outer-none _ (apart-left (ring .cx) (row .outer) (x + 4096) (before-place _ _ _ x h k))
+
+    none-right : (x : ℕ) → x < view .x1 → rightOf view ring (row .outer) ≤ x → betweenOn Y Z ring x y ≡ 0
+    none-right x h k = m .outer-none _ (apart-right (ring .cx) (row .outer) (x + 4096) (from-place _ _ _ x h k))
+
+    none-middle : (x : ℕ) → leftOf view ring (row .hole) ≤ x → x < rightOf view ring (row .hole) → betweenOn Y Z ring x y ≡ 0
+    none-middle x p q = let b = within _ _ x p q in m .hole-none _ (apart-near (ring .cx) (row .hole) (x + 4096) (b .0) (b .1))
+
+    module _ {w h : ℕ} {ink : ℕ → ℕ → ℕ} where
+      pub solid-row : {l m : List ℕ} {t : ℕ}
+          → Drawn w h ink (clipped (leftOf view ring (row .outer)) y (rightOf view ring (row .outer)) (y + 1) (betweenOn Y Z ring)) l m t
+          → Drawn w h ink (clipped (view .x0) y (view .x1) (y + 1) (betweenOn Y Z ring)) l m t
+      solid-row = drawn-row _ _ _ _ _ y (place-low _ _ _ clip) (place-high _ _ _) (λ x p q. ⊎-elim (none-left x p) (none-right x q))
+
+      pub hollow-row : {l k m : List ℕ} {t u : ℕ}
+          → Drawn w h ink (clipped (leftOf view ring (row .outer)) y (leftOf view ring (row .hole)) (y + 1) (betweenOn Y Z ring)) l k t
+          → Drawn w h ink (clipped (rightOf view ring (row .hole)) y (rightOf view ring (row .outer)) (y + 1) (betweenOn Y Z ring)) k m u
+          → Drawn w h ink (clipped (view .x0) y (view .x1) (y + 1) (betweenOn Y Z ring)) l m (t + u)
+      hollow-row d e =
+          let n = betweenOn Y Z ring in
+          let c = rightOf view ring (row .hole) in
+          drawn-join (clipped (view .x0) y (view .x1) (y + 1) n)
+          (clip-columns (view .x0) y (view .x1) (y + 1) c n (place-low _ _ _ clip) (place-high _ _ _))
+          (drawn-row n (view .x0) c _ _ y (place-low _ _ _ clip) (rises _ _ (omega arith)) (λ x p q. ⊎-elim (none-left x p) (λ z. none-middle x z q)) d)
+          (drawn-row n c (view .x1) c _ y (omega arith) (place-high _ _ _) (λ x p q. ⊎-elim (λ z. absurd (omega arith)) (none-right x q)) e)

@@ -1,0 +1,35 @@
+use mathlib.Core.Path.{ap₂}
+use Prim.Native.Nat.{_-_}
+use native.Mathlib.Omega.{arith}
+use Rattle.coverage.proofs.Chord.{chords-rise}
+use Rattle.circles.specs.Row.{at, between}
+use Rattle.circles.proofs.Chords.{chords-far}
+use borrow.Author.Needs.{needs}
+use Rattle.circles.proofs.cover.covered_between.Statement.{statement}
+use Rattle.circles.proofs.cover.covered_between.Tie as tie
+
+covered-requires : tie.Need-covered-requires
+covered-requires c κs = search needs
+
+covered-requires-2 : tie.Need-covered-requires-2
+covered-requires-2 c κs = search needs
+
+sub-result : tie.Need-sub-result
+sub-result c =
+    let a = c .before .before .before .args in
+    omega (arith, chords-rise (at (a .inner .now)) (at (a .outer .now)) (a .a) (a .b) (c .before .before .before .pre .0 .within))
+
+returns : tie.Need-returns
+unfolding between
+returns c = (ap₂ _-_ (c .before .before .covered .ensures .0) (c .covered2 .ensures .0), omega arith)
+
+returns-2 : tie.Need-returns-2
+unfolding between
+returns-2 c =
+    let s = c .before .before in
+    let none = chords-far (s .pre .0 .inner) (s .args .a) (s .args .b) (omega arith) in
+    (omega (arith, c .before .covered .ensures .0, none), omega arith)
+
+pub covered-between-spec : {M : Type 1} → statement M
+covered-between-spec =
+    tie.close (tie.spec covered-requires covered-requires-2 sub-result returns returns-2)

@@ -1,0 +1,72 @@
+-- Coverage never rises outwards, so that nothing is covered from a pixel on that passes the test.
+use mathlib.Core.Path.{_∙_, sym}
+use Prim.Native.Nat.{_-_, _≤_}
+use native.Mathlib.Omega.{arith}
+use borrow.Author.Tests.{leb-true}
+use borrow.Author.Needs.{needs}
+use Rattle.circles.proofs.Chords.{chords-falls, chords-clear, chords-far}
+use Rattle.circles.proofs.cover.covered_width.Statement.{statement}
+use Rattle.circles.proofs.cover.covered_width.Tie as tie
+
+abbrev Inv-loop : tie.InvT-loop
+Inv-loop hs b here i₀ i = i ≤ 255
+
+abbrev μ-loop : tie.MeasureT-loop
+μ-loop hs b here i₀ i = 255 - i
+
+mul-wide : tie.Need-mul-wide Inv-loop μ-loop
+mul-wide c = search needs
+
+element-copy-out-wide : tie.Need-element-copy-out-wide Inv-loop μ-loop
+element-copy-out-wide c = search needs
+
+wide-requires : tie.Need-wide-requires Inv-loop μ-loop
+wide-requires c κs = search needs
+
+add-i : tie.Need-add-i Inv-loop μ-loop
+add-i c = omega (arith, c .before .before .pre .0 .most (c .before .before .args .b))
+
+loop-holds : tie.Need-loop-holds Inv-loop μ-loop
+loop-holds c = omega (arith, c .before .before .pre .0 .most (c .before .before .args .b))
+
+is-clear-requires : tie.Need-is-clear-requires Inv-loop μ-loop
+is-clear-requires c κs = search needs
+
+returns : tie.Need-returns Inv-loop μ-loop
+returns c =
+    let s = c .before .before .before .before .before .before in
+    let i = c .before .before .before .loop .i in
+    let here = chords-clear (s .pre .0) i (s .args .b) (leb-true _ _ (sym (c .before .is-clear .ensures) ∙ c .if1 .taken)) in
+    (omega arith, λ a h. omega (arith, here, chords-falls (s .pre .0) i a (s .args .b) h))
+
+add-i-2 : tie.Need-add-i-2 Inv-loop μ-loop
+add-i-2 c = search needs
+
+loop-less : tie.Need-loop-less Inv-loop μ-loop
+loop-less c = search needs
+
+loop-again : tie.Need-loop-again Inv-loop μ-loop
+loop-again c = search needs
+
+returns-2 : tie.Need-returns-2 Inv-loop μ-loop
+returns-2 c =
+    let s = c .before .before .before .before in
+    (omega arith, λ a h. chords-far (s .pre .0) a (s .args .b) (omega arith))
+
+pub covered-width-spec : {M : Type 1} → statement M
+covered-width-spec =
+    tie.close
+    (tie.spec
+    Inv-loop
+    μ-loop
+    mul-wide
+    element-copy-out-wide
+    wide-requires
+    add-i
+    loop-holds
+    is-clear-requires
+    returns
+    add-i-2
+    loop-less
+    loop-again
+    returns-2)

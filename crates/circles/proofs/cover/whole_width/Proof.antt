@@ -1,0 +1,77 @@
+-- Coverage never rises outwards, so that all is whole up to a pixel that passes the test.
+use mathlib.Core.Path.{_∙_, sym}
+use Prim.Native.Nat.{_+_, _-_, _≤_}
+use native.Mathlib.Omega.{arith}
+use borrow.Author.Tests.{leb-true}
+use borrow.Author.Needs.{needs}
+use Rattle.coverage.proofs.Chord.{chords-le}
+use Rattle.circles.specs.Row.{at}
+use Rattle.circles.proofs.Chords.{chords-falls, chords-whole}
+use Rattle.circles.proofs.cover.whole_width.Statement.{statement}
+use Rattle.circles.proofs.cover.whole_width.Tie as tie
+
+abbrev Inv-loop : tie.InvT-loop
+Inv-loop hs b above i₀ i = i ≤ 255
+
+abbrev μ-loop : tie.MeasureT-loop
+μ-loop hs b above i₀ i = i
+
+add-above : tie.Need-add-above Inv-loop μ-loop
+add-above c = search needs
+
+mul-wide : tie.Need-mul-wide Inv-loop μ-loop
+mul-wide c = search needs
+
+element-copy-out-wide : tie.Need-element-copy-out-wide Inv-loop μ-loop
+element-copy-out-wide c = search needs
+
+wide-requires : tie.Need-wide-requires Inv-loop μ-loop
+wide-requires c κs = search needs
+
+loop-holds : tie.Need-loop-holds Inv-loop μ-loop
+loop-holds c = omega (arith, c .before .before .pre .0 .most (c .before .before .args .b + 1))
+
+sub-is-whole : tie.Need-sub-is-whole Inv-loop μ-loop
+sub-is-whole c = search needs
+
+is-whole-requires : tie.Need-is-whole-requires Inv-loop μ-loop
+is-whole-requires c κs = search needs
+
+returns : tie.Need-returns Inv-loop μ-loop
+returns c =
+    let s = c .before .before .before .before .before .before in
+    let i = c .before .before .before .loop .i in
+    let here = chords-whole (s .pre .0) (i - 1) (s .args .b) (leb-true _ _ (sym (c .before .is-whole .ensures) ∙ c .if1 .taken)) in
+    let Y = at (s .args .hs .now) in
+    (omega arith, λ a h. omega (arith, here, chords-falls (s .pre .0) a (i - 1) (s .args .b) (omega arith), chords-le Y a (s .args .b)))
+
+sub-i : tie.Need-sub-i Inv-loop μ-loop
+sub-i c = search needs
+
+loop-less : tie.Need-loop-less Inv-loop μ-loop
+loop-less c = search needs
+
+loop-again : tie.Need-loop-again Inv-loop μ-loop
+loop-again c = search needs
+
+returns-2 : tie.Need-returns-2 Inv-loop μ-loop
+returns-2 c = (omega arith, λ a h. absurd (omega arith))
+
+pub whole-width-spec : {M : Type 1} → statement M
+whole-width-spec =
+    tie.close
+    (tie.spec
+    Inv-loop
+    μ-loop
+    add-above
+    mul-wide
+    element-copy-out-wide
+    wide-requires
+    loop-holds
+    sub-is-whole
+    is-whole-requires
+    returns
+    sub-i
+    loop-less
+    loop-again
+    returns-2)

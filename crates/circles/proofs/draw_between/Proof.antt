@@ -1,0 +1,66 @@
+-- The arrays hold the heights of the two circles, and the ring has nothing outside its box.
+use native.Mathlib.Omega.{arith}
+use Rattle.circles.specs.Row.{at}
+use Rattle.circles.proofs.Box.{held, boxed-drawn, boxed-empty, boxed-ready}
+use borrow.Author.Needs.{needs}
+use Rattle.circles.proofs.draw_between.Statement.{statement}
+use Rattle.circles.proofs.draw_between.Tie as tie
+
+box-of-requires : tie.Need-box-of-requires
+box-of-requires c κs = search needs
+
+returns : tie.Need-returns
+returns c =
+    let box = c .before .before in
+    let s = box .before .before in
+    let test = rw (box .box-of .ensures) at (c .if1 .taken) in
+    boxed-empty (s .args .view) (s .args .ring) (s .args .radius) (s .pre .0) _ _ _ (λ x y i. omega arith)
+
+returns-2 : tie.Need-returns-2
+returns-2 c =
+    let box = c .before .before .before .before in
+    let s = box .before .before in
+    let test = rw (box .box-of .ensures) at (c .if2 .taken) in
+    boxed-empty (s .args .view) (s .args .ring) (s .args .radius) (s .pre .0) _ _ _ (λ x y i. omega arith)
+
+heights-requires : tie.Need-heights-requires
+heights-requires c κs = search needs
+
+heights-requires-2 : tie.Need-heights-requires-2
+heights-requires-2 c κs = search needs
+
+draw-rows-requires : tie.Need-draw-rows-requires
+draw-rows-requires c κs =
+    let hs = c .before .before .before in
+    let box = hs .before .before .before .before .before .before in
+    let s = box .before .before in
+    let outer = held (hs .before .heights .result) (s .args .radius) (hs .before .heights .ensures) in
+    let inner = held (hs .heights2 .result) (s .args .ring .hole) (hs .heights2 .ensures) in
+    rw (box .box-of .ensures, outer, inner)
+    (boxed-ready (s .args .view) (s .args .ring) (s .args .radius) (s .pre .0) (omega arith) (omega arith) (omega arith))
+
+same-length : tie.Need-same-length
+same-length c = search needs
+
+returns-3 : tie.Need-returns-3
+returns-3 c =
+    let hs = c .before .before .before .before .before .before in
+    let box = hs .before .before .before .before .before .before in
+    let s = box .before .before in
+    let outer = held (hs .before .heights .result) (s .args .radius) (hs .before .heights .ensures) in
+    let inner = held (hs .heights2 .result) (s .args .ring .hole) (hs .heights2 .ensures) in
+    boxed-drawn (s .args .view) (s .args .ring) (s .args .radius) (s .pre .0) _
+    (rw (box .box-of .ensures, outer, inner) at (c .before .before .draw-rows .ensures))
+
+pub draw-between-spec : {M : Type 1} → statement M
+draw-between-spec =
+    tie.close
+    (tie.spec
+    box-of-requires
+    returns
+    returns-2
+    heights-requires
+    heights-requires-2
+    draw-rows-requires
+    same-length
+    returns-3)

@@ -1,0 +1,75 @@
+-- The rows up to y are drawn.
+use mathlib.Core.Path.{_≡_}
+use Prim.Native.Nat.{_+_, _-_, _≤_}
+use native.Mathlib.Omega.{arith}
+use borrow.Author.Needs.{needs}
+use Rattle.page.proofs.Clip.{clip-zero, clip-rows}
+use Rattle.page.proofs.Paint.{drawn-none, drawn-join, drawn-length, drawn-count}
+use Rattle.circles.specs.Row.{at, RingDrawn}
+use Rattle.circles.proofs.Row.{ready-after}
+use Rattle.circles.proofs.rows.draw_rows.Statement.{statement}
+use Rattle.circles.proofs.rows.draw_rows.Tie as tie
+
+abbrev Inv-loop : tie.InvT-loop
+Inv-loop page₀ view ring outer inner end touched₀ y₀ page touched y =
+    (view .y0 ≤ y)
+    × (y ≤ view .y1)
+    × RingDrawn view ring (at outer) (at inner) (view .x0) (view .y0) (view .x1) y page₀ page touched
+
+abbrev μ-loop : tie.MeasureT-loop
+μ-loop page₀ view ring outer inner end touched₀ y₀ page touched y = view .y1 - y
+
+loop-holds : tie.Need-loop-holds Inv-loop μ-loop
+loop-holds c =
+    let a = c .before .args in
+    (omega arith, omega arith, drawn-none _ _ _ _ (a .page .now) (clip-zero _ _ _ _ _ (λ x y i. absurd (omega arith))))
+
+draw-row-requires : tie.Need-draw-row-requires Inv-loop μ-loop
+draw-row-requires c κs =
+    let l = c .before .before .loop in
+    (ready-after (l .inv .2) (c .before .before .before .before .pre), omega arith)
+
+add-touched : tie.Need-add-touched Inv-loop μ-loop
+add-touched c =
+    let s = c .before .before .before .before .before in
+    let law = s .before .before .pre .lawful in
+    omega (arith, drawn-count law (s .loop .inv .2), drawn-count law (c .before .before .draw-row .ensures))
+
+add-y : tie.Need-add-y Inv-loop μ-loop
+add-y c = search needs
+
+loop-less : tie.Need-loop-less Inv-loop μ-loop
+loop-less c = search needs
+
+loop-again : tie.Need-loop-again Inv-loop μ-loop
+loop-again c =
+    let s = c .before .before .before .before .before in
+    let v = s .before .before .args .view in
+    let l = s .loop in
+    let cut = clip-rows (v .x0) (v .y0) (v .x1) (l .y + 1) (l .y) _ (omega arith) (omega arith) in
+    (omega arith, omega arith, drawn-join _ cut (l .inv .2) (c .before .before .draw-row .ensures))
+
+same-length : tie.Need-same-length Inv-loop μ-loop
+same-length c = drawn-length (c .before .loop .inv .2)
+
+returns : tie.Need-returns Inv-loop μ-loop
+returns c =
+    let a = c .before .before .before .args in
+    let l = c .before .loop in
+    let e : l .y ≡ a .view .y1 = omega arith in
+    rw e at (l .inv .2)
+
+pub draw-rows-spec : {M : Type 1} → statement M
+draw-rows-spec =
+    tie.close
+    (tie.spec
+    Inv-loop
+    μ-loop
+    loop-holds
+    draw-row-requires
+    add-touched
+    add-y
+    loop-less
+    loop-again
+    same-length
+    returns)

@@ -1,0 +1,63 @@
+-- The stretch is lent to `fill`, and the rest of the page stays as it was.
+use Prim.Native.Nat.{_+_, _*_, _≤_}
+use native.Mathlib.Omega.{arith}
+use Rattle.page.proofs.Paint.{row-end, drawn-whole}
+use borrow.Author.Needs.{needs}
+use Rattle.circles.proofs.rows.draw_whole.Statement.{statement}
+use Rattle.circles.proofs.rows.draw_whole.Tie as tie
+
+-- the row lies on the page
+inside : (c : tie.Start) → c .args .y * c .args .view .w + c .args .view .w ≤ c .args .view .h * c .args .view .w
+inside c = row-end (c .args .y) (c .args .view .h) (c .args .view .w) (omega arith)
+
+mul-a : tie.Need-mul-a
+mul-a c = omega (arith, inside (c .before))
+
+add-a : tie.Need-add-a
+add-a c = omega (arith, inside (c .before))
+
+mul-e : tie.Need-mul-e
+mul-e c = omega (arith, inside (c .before))
+
+add-e : tie.Need-add-e
+add-e c = omega (arith, inside (c .before))
+
+sub-fill : tie.Need-sub-fill
+sub-fill c = search needs
+
+part-fill-start : tie.Need-part-fill-start
+part-fill-start c = search needs
+
+part-fill-end : tie.Need-part-fill-end
+part-fill-end c = omega (arith, inside (c .before))
+
+fill-requires : tie.Need-fill-requires
+fill-requires c κs = search needs
+
+sub-result : tie.Need-sub-result
+sub-result c = search needs
+
+same-length : tie.Need-same-length
+same-length c = search needs
+
+returns : tie.Need-returns
+returns c =
+    let a = c .before .before .before .before .before .args in
+    drawn-whole (a .view .w) (a .view .h) (a .level) 512 (a .from) (a .end) (a .y) (a .page .now) _
+    (omega arith) (omega arith) (omega arith) (omega arith) (omega arith) (c .before .before .fill .ensures)
+
+pub draw-whole-spec : {M : Type 1} → statement M
+draw-whole-spec =
+    tie.close
+    (tie.spec
+    mul-a
+    add-a
+    mul-e
+    add-e
+    sub-fill
+    part-fill-start
+    part-fill-end
+    fill-requires
+    sub-result
+    same-length
+    returns)

@@ -1,0 +1,130 @@
+// The coverage of a ring by the distances from its centre, and where a row of it changes.
+use coverage::circle::chord_of;
+ghost use mathlib.Core.Path.{_≡_};
+ghost use Prim.Native.Nat.{ℕ, _+_, _-_, _*_, _≤_, _<_, min, max};
+ghost use lib.Dec.{leb};
+ghost use Rattle.coverage.specs.Circle.{chords};
+ghost use Rattle.circles.specs.Row.{at, between, Heights, Nested, Measured};
+
+// The distances at which a row changes: a hole, an edge, a whole part, an edge.
+pub struct Widths {
+    pub hole: u64,
+    pub inner: u64,
+    pub whole: u64,
+    pub outer: u64,
+}
+
+pub fn lesser(a: u64, b: u64) -> u64
+    ensures { λ r. ⌜ r ≡ min a b ⌝ }
+{
+    if a <= b { a } else { b }
+}
+
+pub fn greater(a: u64, b: u64) -> u64
+    ensures { λ r. ⌜ r ≡ max a b ⌝ }
+{
+    if a <= b { b } else { a }
+}
+
+fn wide(height: u32) -> u64
+    ensures { λ r. ⌜ r ≡ height ⌝ }
+{
+    height as u64
+}
+
+// The coverage over 512 by a disc, at the distances a and b.
+fn covered(hs: &[u32; 257], a: u64, b: u64) -> u64
+    requires { ⌜ (a ≤ 255) × (b ≤ 255) ⌝ }
+    ensures { λ r. ⌜ (r ≡ chords (at (now (hs .entry))) a b) × (r ≤ 512) ⌝ }
+{
+    let m = lesser(a, b) as usize;
+    let n = greater(a, b);
+    chord_of(wide(hs[m]), n) + chord_of(wide(hs[m + 1]), n)
+}
+
+// The coverage over 512 between two circles, the inner of radius hole: a row past that needs no heights of it.
+pub fn covered_between(outer: &[u32; 257], inner: &[u32; 257], hole: u64, a: u64, b: u64) -> u64
+    requires { ⌜ Nested (at (now outer)) (at (now inner)) hole × (a ≤ 255) × (b ≤ 255) ⌝ }
+    ensures { λ r. ⌜ (r ≡ between (at (now (outer .entry))) (at (now (inner .entry))) a b) × (r ≤ 512) ⌝ }
+{
+    let n = covered(outer, a, b);
+    if b < hole {
+        n - covered(inner, a, b)
+    } else {
+        n
+    }
+}
+
+// Whether the pixel at the distances a and b is whole: the lower of its two heights tells.
+fn is_whole(hs: &[u32; 257], a: u64, b: u64) -> bool
+    requires { ⌜ (a ≤ 255) × (b ≤ 255) ⌝ }
+    ensures { λ r. ⌜ r ≡ leb (256 * (max a b + 1)) (at (now (hs .entry)) (min a b + 1)) ⌝ }
+{
+    let m = lesser(a, b) as usize;
+    256 * (greater(a, b) + 1) <= wide(hs[m + 1])
+}
+
+// Whether nothing of it is covered: the higher one tells.
+fn is_clear(hs: &[u32; 257], a: u64, b: u64) -> bool
+    requires { ⌜ (a ≤ 255) × (b ≤ 255) ⌝ }
+    ensures { λ r. ⌜ r ≡ leb (at (now (hs .entry)) (min a b)) (256 * max a b) ⌝ }
+{
+    let m = lesser(a, b) as usize;
+    wide(hs[m]) <= 256 * greater(a, b)
+}
+
+// How many pixels of the row at distance b, from the centre outwards, are whole: a guess, lowered until it passes the test.
+fn whole_width(hs: &[u32; 257], b: u64) -> u64
+    requires { ⌜ Heights (at (now hs)) 255 × (b ≤ 255) ⌝ }
+    ensures { λ r. ⌜ (r ≤ 255) × ((a : ℕ) → a < r → chords (at (now (hs .entry))) a b ≡ 512) ⌝ }
+{
+    let above = b as usize + 1;
+    let mut i = wide(hs[above]) / 256;
+    while 0 < i {
+        if is_whole(hs, i - 1, b) {
+            return i;
+        }
+        i -= 1;
+    }
+    0
+}
+
+// From which pixel on none is covered: a guess, raised until it passes the test.
+fn covered_width(hs: &[u32; 257], b: u64) -> u64
+    requires { ⌜ Heights (at (now hs)) 255 × (b ≤ 255) ⌝ }
+    ensures { λ r. ⌜ (r ≤ 255) × ((a : ℕ) → r ≤ a → chords (at (now (hs .entry))) a b ≡ 0) ⌝ }
+{
+    let here = b as usize;
+    let mut i = (wide(hs[here]) + 255) / 256;
+    while i < 255 {
+        if is_clear(hs, i, b) {
+            return i;
+        }
+        i += 1;
+    }
+    i
+}
+
+// Where the row at distance b changes.
+pub fn measure(outer: &[u32; 257], inner: &[u32; 257], hole: u64, b: u64) -> Widths
+    requires { ⌜ Nested (at (now outer)) (at (now inner)) hole × (b ≤ 255) ⌝ }
+    ensures { λ row. ⌜ Measured (at (now (outer .entry))) (at (now (inner .entry))) b row ⌝ }
+{
+    let whole = whole_width(outer, b);
+    let end = covered_width(outer, b);
+    if hole <= b {
+        return Widths {
+            hole: 0,
+            inner: 0,
+            whole,
+            outer: end,
+        };
+    }
+    let edge = lesser(end, covered_width(inner, b));
+    Widths {
+        hole: whole_width(inner, b),
+        inner: edge,
+        whole: greater(edge, whole),
+        outer: end,
+    }
+}

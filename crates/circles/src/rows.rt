@@ -1,0 +1,250 @@
+// The rows of a ring, each drawn in stretches: edges are blended pixel by pixel, what is whole is filled, a hole is left alone.
+use super::cover::Widths;
+use super::cover::covered_between;
+use super::cover::greater;
+use super::cover::lesser;
+use super::cover::measure;
+use coverage::circle::apart_of;
+use page::View;
+ghost use mathlib.Core.Path.{_≡_};
+ghost use Prim.Native.Nat.{ℕ, _+_, _-_, _≤_, _<_};
+ghost use lib.ListN.{length};
+ghost use Rattle.numbers.specs.Sum.{sumTo};
+ghost use Rattle.page.specs.Blend.{inkOf};
+ghost use Rattle.page.specs.Page.{over, dot, touch, clipped, Lawful, Drawn};
+ghost use Rattle.coverage.specs.Circle.{apart};
+ghost use Rattle.circles.specs.Row.{at, between, Nested, Measured, place, leftOf, rightOf, Ready, Band, RingDrawn};
+
+const OFFSET: u64 = 4096;
+
+// The offsets of the centre, the radius of the hole, and the level.
+pub struct Ring {
+    pub cx: u64,
+    pub cy: u64,
+    pub hole: u64,
+    pub level: u8,
+}
+
+// a less b, brought up to 0.
+pub fn less(a: u64, b: u64) -> u64
+    ensures { λ r. ⌜ r ≡ a - b ⌝ }
+{
+    if b <= a { a - b } else { 0 }
+}
+
+// The column or row, from lo to hi, of an offset.
+pub fn place_in(lo: usize, hi: usize, c: u64) -> usize
+    ensures { λ r. ⌜ r ≡ place lo hi c ⌝ }
+{
+    lesser(hi as u64, greater(lo as u64, less(c, OFFSET))) as usize
+}
+
+// The first column of the clip that is nearer than d to the centre, and the first past those.
+pub fn left_at(view: View, ring: Ring, d: u64) -> usize
+    ensures { λ r. ⌜ r ≡ leftOf view ring d ⌝ }
+{
+    place_in(view.x0, view.x1, less(ring.cx, d))
+}
+
+pub fn right_at(view: View, ring: Ring, d: u64) -> usize
+    requires { ⌜ (ring .cx ≤ 8191) × (d ≤ 255) ⌝ }
+    ensures { λ r. ⌜ r ≡ rightOf view ring d ⌝ }
+{
+    place_in(view.x0, view.x1, ring.cx + d)
+}
+
+// Blends a stretch whose first pixel is in column x of the row at distance b; hands back how many pixels it touched.
+fn blend_edge(
+    stretch: &mut [u8],
+    outer: &[u32; 257],
+    inner: &[u32; 257],
+    hole: u64,
+    cx: u64,
+    x: usize,
+    b: u64,
+    level: u8,
+) -> u64
+    requires { ⌜ Nested (at (now outer)) (at (now inner)) hole × (b ≤ 255) × (x + length (now stretch) ≤ 1024) ⌝ }
+    requires { ⌜ ((i : ℕ) → i < length (now stretch) → apart cx (x + i + 4096) ≤ 255) ⌝ }
+    ensures { λ r. ⌜ now (stretch .exit) ≡ over
+        (λ i. dot (inkOf level 512) (between (at (now (outer .entry))) (at (now (inner .entry))) (apart cx (x + i + 4096)) b))
+        (now (stretch .entry)) ⌝ }
+    ensures { λ r. ⌜ r ≡ sumTo (length (now (stretch .entry)))
+        (λ i. touch (between (at (now (outer .entry))) (at (now (inner .entry))) (apart cx (x + i + 4096)) b)) ⌝ }
+{
+    let mut touched: u64 = 0;
+    let mut i = 0;
+    while i < stretch.len() {
+        let n = covered_between(outer, inner, hole, apart_of(cx, (x + i) as u64 + OFFSET), b);
+        let u = stretch[i];
+        stretch[i] = page::blend_byte_512(u, level, n);
+        touched += page::touched(n);
+        i += 1;
+    }
+    touched
+}
+
+// Draws columns from to end of row y pixel by pixel.
+fn draw_edge(
+    page: &mut [u8],
+    view: View,
+    ring: Ring,
+    outer: &[u32; 257],
+    inner: &[u32; 257],
+    y: usize,
+    from: usize,
+    end: usize,
+) -> u64
+    requires { ⌜ Ready view (length (now page)) ring (at (now outer)) (at (now inner)) ⌝ }
+    requires { ⌜ (view .y0 ≤ y) × (y < view .y1) × (view .x0 ≤ from) × (from ≤ end) × (end ≤ view .x1) ⌝ }
+    ensures { λ t. ⌜ RingDrawn view ring (at (now (outer .entry))) (at (now (inner .entry)))
+        from y end (y + 1) (now (page .entry)) (now (page .exit)) t ⌝ }
+{
+    let w = view.w;
+    let a = y * w + from;
+    let e = y * w + end;
+    let b = apart_of(ring.cy, y as u64 + OFFSET);
+    blend_edge(
+        &mut page[a..e],
+        outer,
+        inner,
+        ring.hole,
+        ring.cx,
+        from,
+        b,
+        ring.level,
+    )
+}
+
+// Draws columns from to end of row y, which are whole.
+fn draw_whole(page: &mut [u8], view: View, level: u8, y: usize, from: usize, end: usize) -> u64
+    requires { ⌜ Lawful view (length (now page)) ⌝ }
+    requires { ⌜ (y < view .h) × (from ≤ end) × (end ≤ view .w) ⌝ }
+    ensures { λ t. ⌜ Drawn (view .w) (view .h) (inkOf level 512)
+        (clipped from y end (y + 1) (λ _ _. 512)) (now (page .entry)) (now (page .exit)) t ⌝ }
+{
+    let w = view.w;
+    let a = y * w + from;
+    let e = y * w + end;
+    page::fill(&mut page[a..e], level);
+    (end - from) as u64
+}
+
+// Draws columns p to s of row y, of which q to r are whole.
+fn draw_band(
+    page: &mut [u8],
+    view: View,
+    ring: Ring,
+    outer: &[u32; 257],
+    inner: &[u32; 257],
+    y: usize,
+    p: usize,
+    q: usize,
+    r: usize,
+    s: usize,
+) -> u64
+    requires { ⌜ Ready view (length (now page)) ring (at (now outer)) (at (now inner)) ⌝ }
+    requires { ⌜ Band (at (now outer)) (at (now inner)) view ring y p q r s ⌝ }
+    ensures { λ t. ⌜ RingDrawn view ring (at (now (outer .entry))) (at (now (inner .entry)))
+        p y s (y + 1) (now (page .entry)) (now (page .exit)) t ⌝ }
+{
+    let left = draw_edge(page, view, ring, outer, inner, y, p, q);
+    let whole = draw_whole(page, view, ring.level, y, q, r);
+    let right = draw_edge(page, view, ring, outer, inner, y, r, s);
+    left + whole + right
+}
+
+// Draws a row that does not meet the inner circle: one band, whole in its middle.
+fn draw_solid_row(
+    page: &mut [u8],
+    view: View,
+    ring: Ring,
+    outer: &[u32; 257],
+    inner: &[u32; 257],
+    y: usize,
+    row: Widths,
+) -> u64
+    requires { ⌜ Ready view (length (now page)) ring (at (now outer)) (at (now inner)) ⌝ }
+    requires { ⌜ (view .y0 ≤ y) × (y < view .y1)
+        × Measured (at (now outer)) (at (now inner)) (apart (ring .cy) (y + 4096)) row × (row .inner ≡ 0) ⌝ }
+    ensures { λ t. ⌜ RingDrawn view ring (at (now (outer .entry))) (at (now (inner .entry)))
+        (view .x0) y (view .x1) (y + 1) (now (page .entry)) (now (page .exit)) t ⌝ }
+{
+    let p = left_at(view, ring, row.outer);
+    let q = left_at(view, ring, row.whole);
+    let r = right_at(view, ring, row.whole);
+    let s = right_at(view, ring, row.outer);
+    draw_band(page, view, ring, outer, inner, y, p, q, r, s)
+}
+
+// Draws a row that meets the inner circle: a band on each side of the hole.
+fn draw_hollow_row(
+    page: &mut [u8],
+    view: View,
+    ring: Ring,
+    outer: &[u32; 257],
+    inner: &[u32; 257],
+    y: usize,
+    row: Widths,
+) -> u64
+    requires { ⌜ Ready view (length (now page)) ring (at (now outer)) (at (now inner)) ⌝ }
+    requires { ⌜ (view .y0 ≤ y) × (y < view .y1) × Measured (at (now outer)) (at (now inner)) (apart (ring .cy) (y + 4096)) row ⌝ }
+    ensures { λ t. ⌜ RingDrawn view ring (at (now (outer .entry))) (at (now (inner .entry)))
+        (view .x0) y (view .x1) (y + 1) (now (page .entry)) (now (page .exit)) t ⌝ }
+{
+    let p = left_at(view, ring, row.outer);
+    let q = left_at(view, ring, row.whole);
+    let r = left_at(view, ring, row.inner);
+    let s = left_at(view, ring, row.hole);
+    let left = draw_band(page, view, ring, outer, inner, y, p, q, r, s);
+    let p = right_at(view, ring, row.hole);
+    let q = right_at(view, ring, row.inner);
+    let r = right_at(view, ring, row.whole);
+    let s = right_at(view, ring, row.outer);
+    left + draw_band(page, view, ring, outer, inner, y, p, q, r, s)
+}
+
+// Draws the columns of the clip in row y.
+fn draw_row(
+    page: &mut [u8],
+    view: View,
+    ring: Ring,
+    outer: &[u32; 257],
+    inner: &[u32; 257],
+    y: usize,
+) -> u64
+    requires { ⌜ Ready view (length (now page)) ring (at (now outer)) (at (now inner)) ⌝ }
+    requires { ⌜ (view .y0 ≤ y) × (y < view .y1) ⌝ }
+    ensures { λ t. ⌜ RingDrawn view ring (at (now (outer .entry))) (at (now (inner .entry)))
+        (view .x0) y (view .x1) (y + 1) (now (page .entry)) (now (page .exit)) t ⌝ }
+{
+    let b = apart_of(ring.cy, y as u64 + OFFSET);
+    let row = measure(outer, inner, ring.hole, b);
+    if row.inner == 0 {
+        draw_solid_row(page, view, ring, outer, inner, y, row)
+    } else {
+        draw_hollow_row(page, view, ring, outer, inner, y, row)
+    }
+}
+
+// Draws the rows of the clip.
+pub fn draw_rows(
+    page: &mut [u8],
+    view: View,
+    ring: Ring,
+    outer: &[u32; 257],
+    inner: &[u32; 257],
+) -> u64
+    requires { ⌜ Ready view (length (now page)) ring (at (now outer)) (at (now inner)) ⌝ }
+    ensures { λ t. ⌜ RingDrawn view ring (at (now (outer .entry))) (at (now (inner .entry)))
+        (view .x0) (view .y0) (view .x1) (view .y1) (now (page .entry)) (now (page .exit)) t ⌝ }
+{
+    let end = view.y1;
+    let mut touched: u64 = 0;
+    let mut y = view.y0;
+    while y < end {
+        touched += draw_row(page, view, ring, outer, inner, y);
+        y += 1;
+    }
+    touched
+}

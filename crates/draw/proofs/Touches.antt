@@ -1,0 +1,119 @@
+-- A page painted with the drawn coverage is the page that the touched pixels make.
+use mathlib.Core.Bool.{Bool, true, false, cond, _&&_}
+use mathlib.Core.Path.{_≡_, refl, sym, ap, ap₂, _∙_}
+use mathlib.Core.List.{List}
+use mathlib.Core.Logic.{_↔_, ⊎-elim}
+use Prim.Native.Nat.{ℕ, _+_, _-_, _%_, _/_, _≤_, _<_}
+use native.Mathlib.Omega.{arith}
+use lib.Dec.{ltb, leb}
+use lib.IntN.{pos}
+use lib.ListN.{length, getD}
+use borrow.Author.Tests.{lt-ltb, le-ltb}
+use Rattle.numbers.specs.Coordinate.{offsetOf}
+use Rattle.numbers.specs.Sum.{sumTo}
+use Rattle.numbers.proofs.Order.{lt-or-le}
+use Rattle.numbers.proofs.Sum.{sum-ext}
+use Rattle.numbers.proofs.Coordinate.{InRange, in-range, pixel-in, pixel-offset}
+use Rattle.shapes.specs.Limits.{shapeFault}
+use Rattle.shapes.specs.declared.Clip.{Clip}
+use Rattle.shapes.specs.declared.Disc.{Disc}
+use Rattle.shapes.specs.declared.Ring.{Ring}
+use Rattle.shapes.specs.declared.Shape.{Shape}
+use Rattle.shapes.specs.declared.Shape.the-variants.{Disc as disc, Ring as ring}
+use Rattle.shapes.proofs.Limits.{disc-lawful, ring-lawful}
+use Rattle.coverage.specs.Circle.{heightOf, apart, chords}
+use Rattle.coverage.specs.Coverage.{exactN, drawnN, drawnD}
+use Rattle.coverage.proofs.Chord.{disc-drawn, ring-drawn}
+use Rattle.coverage.proofs.Soundness.{sound}
+use Rattle.page.specs.Blend.{blend, inkOf}
+use Rattle.page.specs.Page.{over, dot, touch, clipped, painted, touches, inView, Lawful, Drawn}
+use Rattle.page.specs.declared.View.{View}
+use Rattle.page.proofs.Clip.{Inside, clip-ext}
+use Rattle.page.proofs.Over.{over-ext}
+use Rattle.page.proofs.Paint.{drawn-ext}
+use Rattle.circles.specs.Circle.{discOn, ringOn}
+use Rattle.draw.specs.Touch.{keeps, touched, byteAfter, pageAfter, touchCount}
+use Rattle.draw.specs.Draw.{shapeOn, viewOf}
+
+-- ---- touched pixels
+
+same-test : (m n : ℕ) → (0 < m) ↔ (0 < n) → ltb 0 m ≡ ltb 0 n
+same-test m n e = ⊎-elim (λ h. lt-ltb 0 m h ∙ sym (lt-ltb 0 n (e .0 h))) (λ h. le-ltb 0 m h ∙ sym (le-ltb 0 n (none h))) (lt-or-le 0 m)
+  where
+    none : m ≤ 0 → n ≤ 0
+    none h = ⊎-elim (λ k. absurd (omega (arith, e .1 k))) (λ k. k) (lt-or-le 0 n)
+
+module _ (w h : ℕ) (c : Clip) (v : ℕ) (s : Shape) (lawful : shapeFault s ≡ 0) where
+  touched-drawn : (x y : ℕ) → ltb 0 (exactN s (pos x) (pos y)) ≡ ltb 0 (drawnN s (pos x) (pos y))
+  touched-drawn x y = same-test (exactN s (pos x) (pos y)) (drawnN s (pos x) (pos y)) (sound s (pos x) (pos y) lawful .touched)
+
+  byte : (x y u : ℕ) → dot (inkOf v (drawnD s)) (inView (viewOf w h c) (shapeOn s) x y) u ≡ byteAfter c v s x y u
+  unfolding dot clipped byteAfter touched keeps
+  byte x y u =
+      rw (touched-drawn x y) (go (leb (c .x0) x && ltb x (c .x1) && leb (c .y0) y && ltb y (c .y1)))
+    where
+      n : ℕ
+      n = drawnN s (pos x) (pos y)
+
+      go : (k : Bool) → cond (ltb 0 (cond k n 0)) (blend u v (cond k n 0) (drawnD s)) u ≡ cond (k && ltb 0 n) (blend u v n (drawnD s)) u
+      go true = refl
+      go false = refl
+
+  count : (x y : ℕ) → touch (inView (viewOf w h c) (shapeOn s) x y) ≡ cond (touched c s x y) 1 0
+  unfolding clipped touched keeps
+  count x y =
+      rw (touched-drawn x y) (go (leb (c .x0) x && ltb x (c .x1) && leb (c .y0) y && ltb y (c .y1)))
+    where
+      n : ℕ
+      n = drawnN s (pos x) (pos y)
+
+      one : touch n ≡ cond (ltb 0 n) 1 0
+      one = ⊎-elim (λ h. rw (lt-ltb 0 n h) (omega arith)) (λ h. rw (le-ltb 0 n h) (omega arith)) (lt-or-le 0 n)
+
+      go : (k : Bool) → touch (cond k n 0) ≡ cond (k && ltb 0 n) 1 0
+      go true = one
+      go false = refl
+
+  pub page-touched : (l : List ℕ) → painted w (inkOf v (drawnD s)) (inView (viewOf w h c) (shapeOn s)) l ≡ pageAfter w c v s l
+  unfolding painted pageAfter
+  page-touched l = over-ext _ _ l (λ k b. byte (k % w) (k / w) (getD l k 0))
+
+  pub count-touched : touches w h (inView (viewOf w h c) (shapeOn s)) ≡ touchCount w h c s
+  unfolding touches touchCount
+  count-touched = sum-ext h _ _ (λ y _. sum-ext w _ _ (λ x _. count x y))
+
+-- ---- discs and rings by their own fields
+
+-- the two promises of a drawing function as one
+pub drawn-by : {w h : ℕ} {ink : ℕ → ℕ → ℕ} {l m : List ℕ} {t : ℕ} (n : ℕ → ℕ → ℕ) → m ≡ painted w ink n l → t ≡ touches w h n → Drawn w h ink n l m t
+drawn-by n e f = record { page = e; count = f }
+
+module _ (view : View) (size : ℕ) (w : Lawful view size) where
+  module _ {x y : ℕ} (i : Inside (view .x0) (view .y0) (view .x1) (view .y1) x y) where
+    x-most : x ≤ 4095
+    x-most = omega (arith, i .right, w .x-most, w .w-most)
+
+    y-most : y ≤ 4095
+    y-most = omega (arith, i .bottom, w .y-most, w .h-most)
+
+  pub disc-on : {ink : ℕ → ℕ → ℕ} {l m : List ℕ} {t : ℕ} (d : Disc) → shapeFault (disc d) ≡ 0
+      → Drawn (view .w) (view .h) ink (inView view (discOn (d .radius) (offsetOf (d .x)) (offsetOf (d .y)))) l m t
+      → Drawn (view .w) (view .h) ink (inView view (shapeOn (disc d))) l m t
+  unfolding discOn
+  disc-on d z = drawn-ext (inView view (shapeOn (disc d))) (clip-ext (view .x0) (view .y0) (view .x1) (view .y1) (discOn (d .radius) (offsetOf (d .x)) (offsetOf (d .y))) (shapeOn (disc d)) same)
+    where
+      same : (x y : ℕ) → Inside (view .x0) (view .y0) (view .x1) (view .y1) x y → discOn (d .radius) (offsetOf (d .x)) (offsetOf (d .y)) x y ≡ shapeOn (disc d) x y
+      same x y i =
+          rw (← pixel-offset x (x-most i), ← pixel-offset y (y-most i))
+          (disc-drawn (in-range (pos x) (pixel-in x (x-most i))) (in-range (pos y) (pixel-in y (y-most i))) d (disc-lawful d z))
+
+  pub ring-on : {ink : ℕ → ℕ → ℕ} {l m : List ℕ} {t : ℕ} (g : Ring) → shapeFault (ring g) ≡ 0
+      → Drawn (view .w) (view .h) ink (inView view (ringOn (g .radius) (g .width) (offsetOf (g .x)) (offsetOf (g .y)))) l m t
+      → Drawn (view .w) (view .h) ink (inView view (shapeOn (ring g))) l m t
+  unfolding ringOn discOn
+  ring-on g z = drawn-ext (inView view (shapeOn (ring g))) (clip-ext (view .x0) (view .y0) (view .x1) (view .y1) (ringOn (g .radius) (g .width) (offsetOf (g .x)) (offsetOf (g .y))) (shapeOn (ring g)) same)
+    where
+      same : (x y : ℕ) → Inside (view .x0) (view .y0) (view .x1) (view .y1) x y → ringOn (g .radius) (g .width) (offsetOf (g .x)) (offsetOf (g .y)) x y ≡ shapeOn (ring g) x y
+      same x y i =
+          rw (← pixel-offset x (x-most i), ← pixel-offset y (y-most i))
+          (ring-drawn (in-range (pos x) (pixel-in x (x-most i))) (in-range (pos y) (pixel-in y (y-most i))) g (ring-lawful g z))

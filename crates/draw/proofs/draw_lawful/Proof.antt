@@ -1,0 +1,75 @@
+use mathlib.Core.Path.{_≡_, subst}
+use Rattle.shapes.specs.Limits.{shapeFault}
+use Rattle.shapes.specs.declared.Shape.{Shape}
+use Rattle.shapes.specs.declared.Shape.the-variants.{Line as line, Disc as disc, Ring as ring}
+use Rattle.coverage.specs.Coverage.{drawnD}
+use Rattle.page.specs.Blend.{inkOf}
+use Rattle.page.specs.Page.{inView, Drawn}
+use Rattle.draw.specs.Draw.{shapeOn}
+use borrow.Author.Needs.{needs}
+use Rattle.draw.proofs.draw_lawful.Statement.{statement}
+use Rattle.draw.proofs.draw_lawful.Tie as tie
+
+enum-known-shape : tie.Need-enum-known-shape
+enum-known-shape c = search needs
+
+draw-line-requires : tie.Need-draw-line-requires
+draw-line-requires c κs = let e : shapeFault (line (c .before .before .shape .given .0 .0)) ≡ 0 = cc in (c .before .before .before .before .before .pre .0, e)
+
+enum-known-shape-2 : tie.Need-enum-known-shape-2
+enum-known-shape-2 c = search needs
+
+draw-disc-requires : tie.Need-draw-disc-requires
+draw-disc-requires c κs = let e : shapeFault (disc (c .before .before .shape2 .given .0 .0)) ≡ 0 = cc in (c .before .before .before .before .before .pre .0, e)
+
+enum-known-shape-3 : tie.Need-enum-known-shape-3
+enum-known-shape-3 c = search needs
+
+draw-ring-requires : tie.Need-draw-ring-requires
+draw-ring-requires c κs = let e : shapeFault (ring (c .before .before .shape3 .given .0 .0)) ≡ 0 = cc in (c .before .before .before .before .before .pre .0, e)
+
+same-length : tie.Need-same-length
+same-length c = search needs
+
+returns : tie.Need-returns
+returns c =
+    let a = c .before .before .before .before .before .before .before .before .args in
+    let e : line (c .before .before .before .before .before .shape .given .0 .0) ≡ a .shape = cc in
+    subst (λ (s : Shape). Drawn (a .view .w) (a .view .h) (inkOf (a .level) (drawnD s)) (inView (a .view) (shapeOn s)) (a .page .now) (c .before .before .draw-line .last .0) (c .before .before .draw-line .result)) e (c .before .before .draw-line .ensures)
+
+same-length-2 : tie.Need-same-length-2
+same-length-2 c = search needs
+
+returns-2 : tie.Need-returns-2
+unfolding drawnD
+returns-2 c =
+    let a = c .before .before .before .before .before .before .before .before .args in
+    let e : disc (c .before .before .before .before .before .shape2 .given .0 .0) ≡ a .shape = cc in
+    subst (λ (s : Shape). Drawn (a .view .w) (a .view .h) (inkOf (a .level) (drawnD s)) (inView (a .view) (shapeOn s)) (a .page .now) (c .before .before .draw-disc .last .0) (c .before .before .draw-disc .result)) e (c .before .before .draw-disc .ensures)
+
+same-length-3 : tie.Need-same-length-3
+same-length-3 c = search needs
+
+returns-3 : tie.Need-returns-3
+unfolding drawnD
+returns-3 c =
+    let a = c .before .before .before .before .before .before .before .before .args in
+    let e : ring (c .before .before .before .before .before .shape3 .given .0 .0) ≡ a .shape = cc in
+    subst (λ (s : Shape). Drawn (a .view .w) (a .view .h) (inkOf (a .level) (drawnD s)) (inView (a .view) (shapeOn s)) (a .page .now) (c .before .before .draw-ring .last .0) (c .before .before .draw-ring .result)) e (c .before .before .draw-ring .ensures)
+
+pub draw-lawful-spec : {M : Type 1} → statement M
+draw-lawful-spec =
+    tie.close
+    (tie.spec
+    enum-known-shape
+    draw-line-requires
+    enum-known-shape-2
+    draw-disc-requires
+    enum-known-shape-3
+    draw-ring-requires
+    same-length
+    returns
+    same-length-2
+    returns-2
+    same-length-3
+    returns-3)

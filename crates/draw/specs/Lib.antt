@@ -1,0 +1,3 @@
+-- One shape on a lent page.
+pub mod Touch
+pub mod Draw

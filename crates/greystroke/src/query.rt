@@ -1,0 +1,94 @@
+// Coverage queries.
+ghost use mathlib.Core.Path.{_≡_};
+ghost use Rattle.greystroke.specs.Answers.{answered};
+ghost use Rattle.coverage.specs.Coverage.{queried};
+ghost use Rattle.shapes.specs.declared.Shape.the-variants.{Line as asLine, Disc as asDisc, Ring as asRing};
+
+// n over d where refusal is 0; else n and d are 0.
+#[repr(C)]
+pub struct CoverageAnswer {
+    pub refusal: u64,
+    pub n: u64,
+    pub d: u64,
+}
+
+// The library's answer in the form that C takes.
+fn coverage_answer(answer: coverage::Answer) -> CoverageAnswer
+    ensures { λ r. ⌜ r ≡ answered answer ⌝ }
+{
+    match answer {
+        coverage::Answer::Covered(share) => CoverageAnswer {
+            refusal: 0,
+            n: share.n,
+            d: share.d,
+        },
+        coverage::Answer::Refused(fault) => CoverageAnswer {
+            refusal: fault as u64,
+            n: 0,
+            d: 0,
+        },
+    }
+}
+
+// The coverage of pixel (x, y) by a line.
+#[no_mangle]
+pub extern "C" fn greystroke_line_coverage(
+    exact: bool,
+    x0: i16,
+    y0: i16,
+    x1: i16,
+    y1: i16,
+    x: i16,
+    y: i16,
+) -> CoverageAnswer
+    ensures { λ r. ⌜ r ≡ answered (queried (asLine (record { exact = exact; x0 = x0; y0 = y0; x1 = x1; y1 = y1 })) x y) ⌝ }
+{
+    let line = shapes::Line {
+        exact,
+        x0,
+        y0,
+        x1,
+        y1,
+    };
+    coverage_answer(coverage::coverage(shapes::Shape::Line(line), x, y))
+}
+
+// The coverage of pixel (x, y) by a disc.
+#[no_mangle]
+pub extern "C" fn greystroke_disc_coverage(
+    cx: i16,
+    cy: i16,
+    radius: u16,
+    x: i16,
+    y: i16,
+) -> CoverageAnswer
+    ensures { λ r. ⌜ r ≡ answered (queried (asDisc (record { x = cx; y = cy; radius = radius })) x y) ⌝ }
+{
+    let disc = shapes::Disc {
+        x: cx,
+        y: cy,
+        radius,
+    };
+    coverage_answer(coverage::coverage(shapes::Shape::Disc(disc), x, y))
+}
+
+// The coverage of pixel (x, y) by a ring.
+#[no_mangle]
+pub extern "C" fn greystroke_ring_coverage(
+    cx: i16,
+    cy: i16,
+    radius: u16,
+    width: u16,
+    x: i16,
+    y: i16,
+) -> CoverageAnswer
+    ensures { λ r. ⌜ r ≡ answered (queried (asRing (record { x = cx; y = cy; radius = radius; width = width })) x y) ⌝ }
+{
+    let ring = shapes::Ring {
+        x: cx,
+        y: cy,
+        radius,
+        width,
+    };
+    coverage_answer(coverage::coverage(shapes::Shape::Ring(ring), x, y))
+}

@@ -1,0 +1,7 @@
+-- Laws of lines on a page.
+pub mod Strip
+pub mod RowPixel
+pub mod Column
+pub mod Dots
+pub mod Advance
+pub mod Walk

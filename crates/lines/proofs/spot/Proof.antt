@@ -1,0 +1,35 @@
+use mathlib.Core.Path.{_≡_, _∙_}
+use Prim.Native.Nat.{_-_, _<_}
+use native.Mathlib.Omega.{arith}
+use Rattle.page.specs.Blend.{inkOf}
+use Rattle.lines.proofs.Dots.{spotted-none, spotted-blend}
+use borrow.Author.Needs.{needs}
+use Rattle.lines.proofs.spot.Statement.{statement}
+use Rattle.lines.proofs.spot.Tie as tie
+
+returns : tie.Need-returns
+returns c =
+    let a = c .before .before .before .args in
+    let z : a .n ≡ 0 = c .if2 .taken in
+    (rw (c .before .if1 .taken) (spotted-none (inkOf (a .level) (a .d)) (a .n) (a .k - a .origin) (a .page .now) z), rw (c .before .if1 .taken, z), omega arith)
+
+sub-put : tie.Need-sub-put
+sub-put c = c .before .before .before .before .pre .0 (c .before .before .if1 .taken) .0
+
+put-requires : tie.Need-put-requires
+put-requires c κs = (c .before .before .before .before .pre .0 (c .before .before .if1 .taken) .1, c .before .before .before .before .pre .1 .0, c .before .before .before .before .pre .1 .1)
+
+same-length : tie.Need-same-length
+same-length c = search needs
+
+returns-2 : tie.Need-returns-2
+returns-2 c =
+    let a = c .before .before .before .before .before .before .before .args in
+    let z : 0 < a .n = omega arith in
+    (c .before .before .put .ensures ∙ rw (c .before .before .before .before .before .if1 .taken) (spotted-blend (a .level) (a .d) (a .n) (a .k - a .origin) (a .page .now) (c .before .before .before .before .before .before .before .pre .1 .0 .some)), rw (c .before .before .before .before .before .if1 .taken) (omega arith), omega arith)
+
+returns-3 : tie.Need-returns-3
+returns-3 c = search needs
+
+pub spot-spec : {M : Type 1} → statement M
+spot-spec = tie.close (tie.spec returns sub-put put-requires same-length returns-2 returns-3)

@@ -1,0 +1,2 @@
+-- How a line lies on a page.
+pub mod Layout

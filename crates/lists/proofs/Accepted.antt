@@ -1,0 +1,111 @@
+-- The records of an accepted list: what a walk over them finds at each.
+use mathlib.Core.Path.{_≡_, refl, sym, _∙_, ap, subst}
+use mathlib.Core.Logic.{_⊎_, inl, inr}
+use mathlib.Core.List.{List, [], _∷_}
+use Prim.Native.Nat.{ℕ, zero, suc, _+_, _≤_, _<_}
+use native.Mathlib.Omega.{arith}
+use borrow.Author.Tests.{lt-ltb, le-ltb}
+use lib.ListN.{length, drop, length-drop}
+use Rattle.numbers.proofs.Order.{lt-or-le, eq-or-ne}
+use Rattle.shapes.specs.declared.Record.{Record}
+use Rattle.lists.specs.Format.{headerSize, headerAt, kindAt, sizeAt, recordAt}
+use Rattle.lists.specs.Read.{readFault}
+use Rattle.lists.specs.List.{Records, accepted, refused, onto, behindEnd, headerFault, recordsFrom, recordsOf, checkedAs, checkedOf}
+use Rattle.lists.specs.declared.format.Header.{Header}
+use Rattle.lists.specs.declared.check.Checked.the-variants.{Accepted}
+use Rattle.lists.proofs.Faults.{Readable, readable}
+use Rattle.lists.proofs.Walk.{at-refusal, at-end, at-record}
+
+-- the bytes s are the records rs, the end record last
+pub data Holds (w h : ℕ) : List ℕ → List Record → Type 0 where
+  last : {s : List ℕ} → readFault w h s ≡ 0 → kindAt s ≡ 0 → length s ≡ sizeAt s → Holds w h s (recordAt s ∷ [])
+  more : {s : List ℕ} {rs : List Record} → readFault w h s ≡ 0 → (kindAt s ≡ 0 → ⊥) → Holds w h (drop (sizeAt s) s) rs
+      → Holds w h s (recordAt s ∷ rs)
+
+never : {f place : ℕ} {rs : List Record} → refused f place ≡ accepted rs → ⊥
+never e = let z : _≡_ {A = ℕ} 0 1 = cc in omega arith
+
+-- what stands behind a record of an accepted list
+record Behind (x : Records) (r : Record) (rs : List Record) : Type 0 where
+  rest : List Record
+  is : x ≡ accepted rest
+  same : rs ≡ r ∷ rest
+
+behind : (r : Record) (x : Records) (rs : List Record) → onto r x ≡ accepted rs → Behind x r rs
+behind r (accepted qs) rs e = record { rest = qs; is = refl; same = cc }
+behind r (refused f place) rs e = absurd (never e)
+
+nothing-behind : (s : List ℕ) (place : ℕ) (rs : List Record) → behindEnd s place ≡ accepted rs → (length s ≡ 0) × (rs ≡ [])
+nothing-behind s place rs e = go (lt-or-le 0 (length s))
+  where
+    go : (0 < length s) ⊎ (length s ≤ 0) → (length s ≡ 0) × (rs ≡ [])
+    go (inl h) = absurd (never (rw (lt-ltb 0 (length s) h) at e))
+    go (inr h) = let k : accepted [] ≡ accepted rs = rw (le-ltb 0 (length s) h) at e in (omega arith, cc)
+
+pub holds : (w h fuel : ℕ) (s : List ℕ) (place : ℕ) (rs : List Record) → recordsFrom fuel w h s place ≡ accepted rs → Holds w h s rs
+unfolding recordsFrom
+holds w h zero s place rs e = absurd (never e)
+holds w h (suc fuel) s place rs e =
+    go (holds w h fuel (drop (sizeAt s) s) (place + sizeAt s)) (lt-or-le 0 (readFault w h s)) (eq-or-ne (kindAt s) 0)
+  where
+    go : ((qs : List Record) → recordsFrom fuel w h (drop (sizeAt s) s) (place + sizeAt s) ≡ accepted qs → Holds w h (drop (sizeAt s) s) qs)
+        → (0 < readFault w h s) ⊎ (readFault w h s ≤ 0) → (kindAt s ≡ 0) ⊎ (kindAt s ≡ 0 → ⊥) → Holds w h s rs
+    go after (inl f) k = absurd (never (sym (at-refusal w h fuel s place f) ∙ e))
+    go after (inr f) (inl k) =
+        let none : readFault w h s ≡ 0 = omega arith in
+        let b = behind (recordAt s) (behindEnd (drop (sizeAt s) s) (place + sizeAt s)) rs (sym (at-end w h fuel s place none k) ∙ e) in
+        let z = nothing-behind (drop (sizeAt s) s) (place + sizeAt s) (b .rest) (b .is) in
+        let n = length-drop (sizeAt s) s in
+        let fits = readable w h s none .whole .fits in
+        subst (Holds w h s) (sym (b .same ∙ ap (λ (qs : List Record). recordAt s ∷ qs) (z .1))) (last none k (omega arith))
+    go after (inr f) (inr k) =
+        let none : readFault w h s ≡ 0 = omega arith in
+        let b = behind (recordAt s) (recordsFrom fuel w h (drop (sizeAt s) s) (place + sizeAt s)) rs (sym (at-record w h fuel s place none k) ∙ e) in
+        subst (Holds w h s) (sym (b .same)) (more none k (after (b .rest) (b .is)))
+
+-- ---- a whole list
+pub list-headed : (s : List ℕ) (n : ℕ) (rs : List Record) → recordsOf s n ≡ accepted rs → headerFault s n ≡ 0
+unfolding recordsOf
+list-headed s n rs e = go (lt-or-le 0 (headerFault s n))
+  where
+    go : (0 < headerFault s n) ⊎ (headerFault s n ≤ 0) → headerFault s n ≡ 0
+    go (inl h) = absurd (never (rw (lt-ltb 0 (headerFault s n) h) at e))
+    go (inr h) = omega arith
+
+pub list-holds : (s : List ℕ) (n : ℕ) (rs : List Record) → recordsOf s n ≡ accepted rs → Holds (headerAt s .w) (headerAt s .h) (drop headerSize s) rs
+unfolding recordsOf
+list-holds s n rs e =
+    let none = list-headed s n rs e in
+    holds (headerAt s .w) (headerAt s .h) (suc (length s)) (drop headerSize s) headerSize rs (rw none at e)
+
+-- the check's answer for it
+pub record AcceptedAs (s : List ℕ) (n : ℕ) (d : Header) : Type 0 where
+  pub records : List Record
+  pub is : recordsOf s n ≡ accepted records
+  pub header : d ≡ headerAt s
+
+pub checked-accepted : (s : List ℕ) (n : ℕ) (d : Header) → checkedOf s n ≡ Accepted d → AcceptedAs s n d
+checked-accepted s n d e = go (recordsOf s n) refl e
+  where
+    go : (x : Records) → recordsOf s n ≡ x → checkedAs (headerAt s) x ≡ Accepted d → AcceptedAs s n d
+    go (accepted rs) k f = record { records = rs; is = k; header = cc }
+    go (refused g place) k f = absurd (let z : _≡_ {A = ℕ} 0 1 = cc in omega arith)
+
+-- ---- a walk: each record stands whole, and is followed by the rest unless it is the end record
+module _ (w h : ℕ) (s : List ℕ) where
+  pub holds-readable : (rs : List Record) → Holds w h s rs → Readable w h s
+  holds-readable rs (last none k all) = readable w h s none
+  holds-readable rs (more none k p) = readable w h s none
+
+  pub holds-end : (rs : List Record) → Holds w h s rs → kindAt s ≡ 0 → rs ≡ recordAt s ∷ []
+  holds-end rs (last none k all) e = refl
+  holds-end rs (more none k p) e = absurd (k e)
+
+  pub record Next (rs : List Record) : Type 0 where
+    pub rest : List Record
+    pub same : rs ≡ recordAt s ∷ rest
+    pub left : Holds w h (drop (sizeAt s) s) rest
+
+  pub holds-next : (rs : List Record) → Holds w h s rs → (kindAt s ≡ 0 → ⊥) → Next rs
+  holds-next rs (last none k all) f = absurd (f k)
+  holds-next rs (more {rs = qs} none k p) f = record { rest = qs; same = refl; left = p }

@@ -1,0 +1,115 @@
+-- The records of a list one after the other: the turns of its check.
+use mathlib.Core.Path.{_≡_, refl, sym, _∙_, ap, ap₂}
+use mathlib.Core.List.{List}
+use Prim.Native.Nat.{ℕ, suc, pred, _+_, _-_, _≤_, _<_}
+use native.Mathlib.Nat.{suc-pred-eq-of-pos, le-of-eq}
+use native.Mathlib.Omega.{arith}
+use borrow.Author.Tests.{lt-ltb, le-ltb, eq-eqb, ne-eqb}
+use lib.ListN.{length, getD, take, drop, length-drop}
+use lib.Seq.{take-all, drop-drop, getD-drop}
+use Rattle.shapes.specs.declared.Record.{Record}
+use Rattle.lists.specs.Format.{kindSize, kindAt, sizeAt, recordAt}
+use Rattle.lists.specs.Read.{readFault}
+use Rattle.lists.specs.List.{Records, accepted, refused, onto, behindEnd, recordsFrom, checkedAs}
+use Rattle.lists.specs.declared.format.Header.{Header}
+use Rattle.lists.specs.declared.check.Checked.{Checked}
+use Rattle.lists.specs.declared.check.Checked.the-variants.{Accepted, Refused}
+use Rattle.lists.proofs.Faults.{readable}
+
+-- ---- one turn of the definition
+module _ (w h fuel : ℕ) (s : List ℕ) (place : ℕ) where
+  pub at-refusal : 0 < readFault w h s → recordsFrom (suc fuel) w h s place ≡ refused (readFault w h s) place
+  unfolding recordsFrom
+  at-refusal k = rw (lt-ltb 0 (readFault w h s) k)
+
+  pub at-end : readFault w h s ≡ 0 → kindAt s ≡ 0
+      → recordsFrom (suc fuel) w h s place ≡ onto (recordAt s) (behindEnd (drop (sizeAt s) s) (place + sizeAt s))
+  unfolding recordsFrom
+  at-end e k = simp (e, eq-eqb (kindAt s) 0 k)
+
+  pub at-record : readFault w h s ≡ 0 → (kindAt s ≡ 0 → ⊥)
+      → recordsFrom (suc fuel) w h s place ≡ onto (recordAt s) (recordsFrom fuel w h (drop (sizeAt s) s) (place + sizeAt s))
+  unfolding recordsFrom
+  at-record e k = simp (e, ne-eqb (kindAt s) 0 k)
+
+onto-checked : (d : Header) (r : Record) (x : Records) → checkedAs d (onto r x) ≡ checkedAs d x
+onto-checked d r (accepted rs) = refl
+onto-checked d r (refused f place) = refl
+
+-- ---- the check at a place: its answer is what the bytes from there on give
+pub record Reached (d : Header) (list : List ℕ) (answer : Checked) (place : ℕ) : Type 0 where
+  pub inside : place ≤ length list
+  pub fuel : ℕ
+  pub enough : length list - place ≤ fuel
+  pub same : answer ≡ checkedAs d (recordsFrom (suc fuel) (d .w) (d .h) (drop place list) place)
+
+pub reached-start : (d : Header) (list : List ℕ) (place : ℕ) → place ≤ length list
+    → Reached d list (checkedAs d (recordsFrom (suc (length list)) (d .w) (d .h) (drop place list) place)) place
+reached-start d list place h = record { inside = h; fuel = length list; enough = omega arith; same = refl }
+
+-- a turn that found the fault f in the part of the list from the place on
+module _ {d : Header} {list : List ℕ} {answer : Checked} {place f : ℕ} (p : Reached d list answer place)
+    (found : f ≡ readFault (d .w) (d .h) (take (length list - place) (drop place list))) where
+  fault-is : readFault (d .w) (d .h) (drop place list) ≡ f
+  fault-is =
+      ap (readFault (d .w) (d .h)) (sym (take-all (length list - place) (drop place list) (le-of-eq (length-drop place list))))
+      ∙ sym found
+
+  pub refused-here : 0 < f → Refused f place ≡ answer
+  refused-here k =
+      let e = fault-is in
+      ap (λ (n : ℕ). Refused n place) (sym e)
+      ∙ sym (p .same ∙ ap (checkedAs d) (at-refusal (d .w) (d .h) (p .fuel) (drop place list) place (omega arith)))
+
+  -- no fault: the record has n bytes
+  module _ {n : ℕ} (none : f ≤ 0) (size : n ≡ kindSize (getD list place 0)) where
+    none-is : readFault (d .w) (d .h) (drop place list) ≡ 0
+    none-is = fault-is ∙ omega arith
+
+    kind-is : kindAt (drop place list) ≡ getD list place 0
+    kind-is = getD-drop place list 0 0 ∙ ap (λ (i : ℕ). getD list i 0) (omega arith)
+
+    size-is : sizeAt (drop place list) ≡ n
+    size-is = ap kindSize kind-is ∙ sym size
+
+    pub next-inside : (0 < n) × (place + n ≤ length list)
+    next-inside =
+        let whole = readable (d .w) (d .h) (drop place list) none-is .whole in
+        let e = size-is in
+        let k = length-drop place list in
+        (omega arith, omega arith)
+
+    after-end : getD list place 0 ≡ 0 → answer ≡ checkedAs d (behindEnd (drop n (drop place list)) (place + n))
+    after-end k =
+        p .same
+        ∙ ap (checkedAs d) (at-end (d .w) (d .h) (p .fuel) (drop place list) place none-is (kind-is ∙ k))
+        ∙ onto-checked d (recordAt (drop place list)) (behindEnd (drop (sizeAt (drop place list)) (drop place list)) (place + sizeAt (drop place list)))
+        ∙ ap (λ (m : ℕ). checkedAs d (behindEnd (drop m (drop place list)) (place + m))) size-is
+
+    left-length : length (drop n (drop place list)) ≡ length list - (place + n)
+    left-length = ap length (drop-drop n place list) ∙ length-drop (place + n) list
+
+    pub surplus : getD list place 0 ≡ 0 → place + n < length list → Refused 6 (place + n) ≡ answer
+    surplus k more =
+        let e = left-length in
+        sym (after-end k ∙ rw (lt-ltb 0 (length (drop n (drop place list))) (omega arith)))
+
+    pub accepted-here : getD list place 0 ≡ 0 → length list ≤ place + n → Accepted d ≡ answer
+    accepted-here k all =
+        let e = left-length in
+        sym (after-end k ∙ rw (le-ltb 0 (length (drop n (drop place list))) (omega arith)))
+
+    pub next-reached : (getD list place 0 ≡ 0 → ⊥) → Reached d list answer (place + n)
+    next-reached k =
+        let inside = next-inside in
+        let positive = suc-pred-eq-of-pos {n = p .fuel} (omega (arith, p .enough)) in
+        record {
+          inside = inside .1;
+          fuel = pred (p .fuel);
+          enough = omega (arith, p .enough);
+          same = p .same
+              ∙ ap (checkedAs d) (at-record (d .w) (d .h) (p .fuel) (drop place list) place none-is (λ e. k (sym kind-is ∙ e)))
+              ∙ onto-checked d (recordAt (drop place list)) (recordsFrom (p .fuel) (d .w) (d .h) (drop (sizeAt (drop place list)) (drop place list)) (place + sizeAt (drop place list)))
+              ∙ ap (λ (m : ℕ). checkedAs d (recordsFrom (p .fuel) (d .w) (d .h) (drop m (drop place list)) (place + m))) size-is
+              ∙ ap₂ (λ (m : ℕ) (s : List ℕ). checkedAs d (recordsFrom m (d .w) (d .h) s (place + n))) (sym positive) (drop-drop n place list);
+        }

@@ -1,0 +1,164 @@
+-- The header and the records of an accepted list, written again one after the other, give its own bytes.
+use mathlib.Core.Path.{_≡_, refl, sym, _∙_, ap, ap₂, subst}
+use mathlib.Core.Bool.{Bool, true, false, _&&_}
+use mathlib.Core.List.{List, [], _∷_, _++_, append-assoc, append-nil}
+use Prim.Native.Nat.{ℕ, zero, suc, _+_, _≤_, _<_}
+use native.Mathlib.Nat.{zero-add}
+use native.Mathlib.Omega.{arith}
+use borrow.Author.Tests.{eqb-true}
+use lib.ListN.{length, getD, take, drop, length-append, length-drop, take-append-drop}
+use lib.Seq.{take-at, drop-append-add, drop-drop, drop-length, getD-drop, length-take-le, take-all}
+use Rattle.numbers.specs.Coordinate.{bitsOf, signedOf, wordOf, bytesOf}
+use Rattle.numbers.proofs.Coordinate.{bits-signed, bytes-word}
+use Rattle.shapes.specs.declared.Record.{Record}
+use Rattle.lists.specs.Format.{kindSize, kindOf, fieldsOf, headerBytes, recordBytes, wordAt, headerAt, kindAt, sizeAt, decoded, recordAt, Whole}
+use Rattle.lists.specs.Read.{readFault}
+use Rattle.lists.specs.Write.{putAt, recordWritten, recordList, recordsList, listWritten}
+use Rattle.lists.specs.List.{markAt, accepted, recordsOf}
+use Rattle.lists.proofs.Faults.{readable, Headed, headed}
+use Rattle.lists.specs.declared.write.Written.{Written}
+use Rattle.lists.proofs.Bytes.{unknown-kind}
+use Rattle.lists.proofs.Writes.{put-length, header-done, header-none, record-done, fault-none}
+use Rattle.lists.proofs.Accepted.{Holds, last, more, list-headed, list-holds}
+
+-- each element of a list is a byte
+abbrev pub AllBytes : List ℕ → Type 0
+AllBytes s = (i : ℕ) → getD s i 0 < 256
+
+drop-bytes : (n : ℕ) (s : List ℕ) → AllBytes s → AllBytes (drop n s)
+drop-bytes n s b i = subst (λ (x : ℕ). x < 256) (sym (getD-drop n s i 0)) (b (n + i))
+
+-- ---- the bytes of what stands at the front of a list are the first bytes of the list
+
+-- the n bytes from place i on, one by one
+firsts : ℕ → ℕ → List ℕ → List ℕ
+firsts zero i s = []
+firsts (suc n) i s = getD s i 0 ∷ firsts n (suc i) s
+
+firsts-shift : (n i x : ℕ) (xs : List ℕ) → firsts n (suc i) (x ∷ xs) ≡ firsts n i xs
+unfolding firsts
+firsts-shift zero i x xs = refl
+firsts-shift (suc n) i x xs = ap (λ (l : List ℕ). getD xs i 0 ∷ l) (firsts-shift n (suc i) x xs)
+
+take-firsts : (n : ℕ) (s : List ℕ) → n ≤ length s → take n s ≡ firsts n 0 s
+unfolding firsts
+take-firsts zero s h = refl
+take-firsts (suc n) [] h = absurd (omega arith)
+take-firsts (suc n) (x ∷ xs) h = ap (λ (l : List ℕ). x ∷ l) (take-firsts n xs (omega arith) ∙ sym (firsts-shift n 0 x xs))
+
+-- a word and a coordinate that were read are written as the bytes that they were read from
+word-then : {a b : ℕ} {bs cs : List ℕ} → a < 256 → bs ≡ cs → bytesOf (wordOf a b) ++ bs ≡ a ∷ b ∷ cs
+word-then {a} {b} h e = ap₂ _++_ (bytes-word a b h) e
+
+coordinate-then : {a b : ℕ} {bs cs : List ℕ} → a < 256 → b < 256 → bs ≡ cs → bytesOf (bitsOf (signedOf (wordOf a b))) ++ bs ≡ a ∷ b ∷ cs
+coordinate-then {a} {b} {bs} h k e = ap (λ (v : ℕ). bytesOf v ++ bs) (bits-signed (wordOf a b) (omega arith)) ∙ word-then h e
+
+front : {a k : ℕ} {bs cs : List ℕ} → a ≡ k → bs ≡ cs → k ∷ bs ≡ a ∷ cs
+front e f = λ i. sym e i ∷ f i
+
+and-both : (a b : Bool) → a && b ≡ true → (a ≡ true) × (b ≡ true)
+and-both true b e = (refl, e)
+and-both false b e = absurd (let z : _≡_ {A = ℕ} 0 1 = cc in omega arith)
+
+module _ (s : List ℕ) (b : AllBytes s) where
+  kind-again : (k : ℕ) → 0 < kindSize k → getD s 0 0 ≡ k → recordBytes (decoded k s) ≡ firsts (kindSize k) 0 s
+  unfolding firsts kindSize kindOf fieldsOf decoded
+  kind-again zero h e = front e refl
+  kind-again (suc zero) h e = front e (word-then (b 1) (word-then (b 3) (word-then (b 5) (word-then (b 7) refl))))
+  kind-again (suc (suc zero)) h e = front e refl
+  kind-again (suc (suc (suc zero))) h e = front e (coordinate-then (b 1) (b 2) (coordinate-then (b 3) (b 4) (coordinate-then (b 5) (b 6) (coordinate-then (b 7) (b 8) refl))))
+  kind-again (suc (suc (suc (suc zero)))) h e = front e (coordinate-then (b 1) (b 2) (coordinate-then (b 3) (b 4) (coordinate-then (b 5) (b 6) (coordinate-then (b 7) (b 8) refl))))
+  kind-again (suc (suc (suc (suc (suc zero))))) h e = front e (coordinate-then (b 1) (b 2) (coordinate-then (b 3) (b 4) refl))
+  kind-again (suc (suc (suc (suc (suc (suc zero)))))) h e = front e (coordinate-then (b 1) (b 2) (coordinate-then (b 3) (b 4) refl))
+  kind-again (suc (suc (suc (suc (suc (suc (suc k))))))) h e = absurd (let z = unknown-kind (suc (suc (suc (suc (suc (suc (suc k))))))) (omega arith) in omega arith)
+
+  pub record-again : Whole s → recordBytes (recordAt s) ≡ take (sizeAt s) s
+  record-again p = kind-again (kindAt s) (p .known) refl ∙ sym (take-firsts (sizeAt s) s (p .fits))
+
+  pub header-again : (n : ℕ) → Headed s n → headerBytes (headerAt s) ≡ take 10 s
+  unfolding firsts headerBytes
+  header-again n p =
+      let first = and-both (markAt s 0 && markAt s 1) (markAt s 2) (p .marked) in
+      let second = and-both (markAt s 0) (markAt s 1) (first .0) in
+      front (eqb-true _ _ (second .0)) (front (eqb-true _ _ (second .1)) (front (eqb-true _ _ (first .1))
+      (ap (λ (v : ℕ). bytesOf v ++ bytesOf (wordAt s 5) ++ bytesOf (wordAt s 7) ++ getD s 9 0 ∷ []) (sym (p .versioned))
+      ∙ word-then (b 3) (word-then (b 5) (word-then (b 7) refl)))))
+      ∙ sym (take-firsts 10 s (p .least))
+
+-- ---- bytes put into a list, one run behind the other
+put-put : (l : List ℕ) (place : ℕ) (bs cs : List ℕ) → place + length bs + length cs ≤ length l
+    → putAt (place + length bs) cs (putAt place bs l) ≡ putAt place (bs ++ cs) l
+put-put l place bs cs h =
+    let p : List ℕ = take place l ++ bs in
+    let q : List ℕ = drop (place + length bs) l in
+    let n : length p ≡ place + length bs = length-append (take place l) bs ∙ ap (λ (k : ℕ). k + length bs) (length-take-le place l (omega arith)) in
+    let both = length-append bs cs in
+    let next : place + length bs + length cs ≡ place + length (bs ++ cs) = omega arith in
+    ap₂ (λ (x y : List ℕ). x ++ cs ++ y)
+    (take-at p q (place + length bs) n)
+    (ap (λ (k : ℕ). drop (k + length cs) (p ++ q)) (sym n) ∙ drop-append-add p q (length cs) ∙ drop-drop (length cs) (place + length bs) l)
+    ∙ ap₂ (λ (x : List ℕ) (k : ℕ). x ++ drop k l) (append-assoc (take place l) bs cs) next
+
+-- ---- the records, one after the other
+module _ (w h : ℕ) (s : List ℕ) (none : readFault w h s ≡ 0) (b : AllBytes s) (m : List ℕ) (place : ℕ) (low : 10 ≤ place)
+    (inside : place + sizeAt s ≤ length m) (most : place + sizeAt s ≤ 65536) where
+  long : length (recordBytes (recordAt s)) ≡ sizeAt s
+  long =
+      let p = readable w h s none .whole in
+      ap length (record-again s b p) ∙ length-take-le (sizeAt s) s (p .fits)
+
+  done : (record { code = 0; place = place + length (recordBytes (recordAt s)); w = w; h = h } ≡ recordWritten m place w h (recordAt s))
+      × (putAt place (recordBytes (recordAt s)) m ≡ recordList m place w h (recordAt s))
+  done =
+      let p = readable w h s none in
+      let n = long in
+      record-done m place w h (recordAt s) (fault-none (length m) place w h (recordAt s) (record { page = p .page; lawful = p .lawful; room = record { behind = low; inside = omega arith; most = omega arith } }))
+
+  step-list : recordList m place w h (recordAt s) ≡ putAt place (take (sizeAt s) s) m
+  step-list = sym (done .1) ∙ ap (λ (bs : List ℕ). putAt place bs m) (record-again s b (readable w h s none .whole))
+
+  step-place : recordWritten m place w h (recordAt s) .place ≡ place + sizeAt s
+  step-place = ap (λ (r : Written). r .place) (sym (done .0)) ∙ ap (λ (n : ℕ). place + n) long
+
+records-again : {w h : ℕ} {s : List ℕ} {rs : List Record} → Holds w h s rs → AllBytes s → (m : List ℕ) (place : ℕ) → 10 ≤ place
+    → place + length s ≤ length m → place + length s ≤ 65536 → recordsList m place w h rs ≡ putAt place s m
+unfolding recordsList
+records-again {w} {h} (last {s} none k all) b m place low inside most =
+    step-list w h s none b m place low (omega arith) (omega arith)
+    ∙ ap (λ (bs : List ℕ). putAt place bs m) (take-all (sizeAt s) s (omega arith))
+records-again {w} {h} (more {s} {rs} none k p) b m place low inside most =
+    let fits = readable w h s none .whole .fits in
+    let n = length-take-le (sizeAt s) s fits in
+    let d = length-drop (sizeAt s) s in
+    let same = put-length m place (take (sizeAt s) s) (omega arith) in
+    ap₂ (λ (l : List ℕ) (i : ℕ). recordsList l i w h rs)
+    (step-list w h s none b m place low (omega arith) (omega arith))
+    (step-place w h s none b m place low (omega arith) (omega arith) ∙ ap (λ (i : ℕ). place + i) (sym n))
+    ∙ records-again p (drop-bytes (sizeAt s) s b) (putAt place (take (sizeAt s) s) m) (place + length (take (sizeAt s) s)) (omega arith) (omega arith) (omega arith)
+    ∙ put-put m place (take (sizeAt s) s) (drop (sizeAt s) s) (omega arith)
+    ∙ ap (λ (bs : List ℕ). putAt place bs m) (take-append-drop (sizeAt s) s)
+
+-- ---- a whole list
+module _ (l : List ℕ) (n : ℕ) (rs : List Record) (b : AllBytes l) (e : recordsOf l n ≡ accepted rs) (m : List ℕ) (place w h : ℕ) where
+  -- written into a list that is as long at least, from any place and with any W and H held
+  pub written-again : length l ≤ length m → listWritten m place w h (headerAt l) rs ≡ l ++ drop (length l) m
+  unfolding listWritten
+  written-again fits =
+      let p = headed l n (list-headed l n rs e) in
+      let done = header-done m place w h (headerAt l) (header-none (length m) (headerAt l) (p .size) (omega (arith, p .least))) in
+      let ten : 10 ≡ 0 + length (take 10 l) = omega (arith, length-take-le 10 l (p .least)) in
+      let rest = length-drop 10 l in
+      let same = put-length m 0 (take 10 l) (omega (arith, p .least)) in
+      ap₂ (λ (x : List ℕ) (r : Written). recordsList x (r .place) (r .w) (r .h) rs)
+      (sym (done .1) ∙ ap (λ (bs : List ℕ). putAt 0 bs m) (header-again l b n p))
+      (sym (done .0))
+      ∙ records-again (list-holds l n rs e) (drop-bytes 10 l b) (putAt 0 (take 10 l) m) 10 (omega arith) (omega (arith, p .least)) (omega (arith, p .least, p .most))
+      ∙ ap (λ (k : ℕ). putAt k (drop 10 l) (putAt 0 (take 10 l) m)) ten
+      ∙ put-put m 0 (take 10 l) (drop 10 l) (omega (arith, p .least))
+      ∙ ap (λ (bs : List ℕ). putAt 0 bs m) (take-append-drop 10 l)
+      ∙ ap (λ (k : ℕ). l ++ drop k m) (zero-add (length l))
+
+  -- written into a list of its own length
+  pub own-bytes : length m ≡ length l → listWritten m place w h (headerAt l) rs ≡ l
+  own-bytes same =
+      written-again (omega arith) ∙ ap (λ (bs : List ℕ). l ++ bs) (ap (λ (k : ℕ). drop k m) (sym same) ∙ drop-length m) ∙ append-nil l

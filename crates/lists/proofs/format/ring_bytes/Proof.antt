@@ -1,0 +1,19 @@
+use Rattle.lists.specs.Format.{kindOf, fieldsOf, OneByte}
+use Rattle.lists.proofs.Bytes.{kept}
+use Rattle.lists.proofs.format.ring_bytes.Statement.{statement}
+use Rattle.lists.proofs.format.ring_bytes.Tie as tie
+
+circle-bytes-requires : tie.Need-circle-bytes-requires
+unfolding OneByte
+circle-bytes-requires c κs = c .before .before .pre
+
+returns : tie.Need-returns
+unfolding kindOf fieldsOf
+returns c =
+    let args = c .before .before .before .args in
+    let struct-told = c .before .before .struct-told in
+    let g = args .ring in
+    simp (c .circle-bytes .ensures, kept (g .x) (struct-told .given .0 .1), kept (g .y) (c .before .struct-told2 .given .1 .0 .1))
+
+pub ring-bytes-spec : {M : Type 1} → statement M
+ring-bytes-spec = tie.close (tie.spec circle-bytes-requires returns)

@@ -1,0 +1,139 @@
+-- "Drawing list": the header and the records as bytes. Fields of two bytes go low byte first (`wordOf`, `bytesOf`).
+use mathlib.Core.Bool.{Bool, true, false, cond}
+use mathlib.Core.List.{List, [], _∷_, _++_}
+use Prim.Native.Nat.{ℕ, _+_, _-_, _≤_, _<_}
+use lib.Dec.{eqb}
+use lib.IntN.{ℤ}
+use lib.ListN.{length, getD, replicate}
+use Rattle.numbers.specs.Coordinate.{bitsOf, signedOf, wordOf, bytesOf}
+use Rattle.shapes.specs.Limits.{first}
+use Rattle.shapes.specs.declared.Line.{Line}
+use Rattle.shapes.specs.declared.Disc.{Disc}
+use Rattle.shapes.specs.declared.Ring.{Ring}
+use Rattle.shapes.specs.declared.Shape.{Shape}
+use Rattle.shapes.specs.declared.Shape.the-variants.{Line as line, Disc as disc, Ring as ring}
+use Rattle.shapes.specs.declared.Clip.{Clip}
+use Rattle.shapes.specs.declared.Setting.the-variants.{Clip as clip, Level as level}
+use Rattle.shapes.specs.declared.Record.{Record}
+use Rattle.shapes.specs.declared.Record.the-variants.{End as end, Setting as setting, Shape as shape}
+use Rattle.lists.specs.declared.format.Header.{Header}
+
+-- ---- sizes
+
+-- a list has at most 65,536 bytes
+abbrev pub listMost : ℕ
+listMost = 65536
+
+abbrev pub headerSize : ℕ
+headerSize = 10
+
+-- how many bytes a record of kind k has, the kind byte with them; 0 for an unknown kind
+unfoldable pub kindSize : ℕ → ℕ
+kindSize k =
+    first ((eqb k 0, 1) ∷ (eqb k 1, 9) ∷ (eqb k 2, 2) ∷ (eqb k 3, 9) ∷ (eqb k 4, 9) ∷ (eqb k 5, 6) ∷ (eqb k 6, 7) ∷ [])
+
+-- ---- the bytes of a header and of a record
+
+-- the letters INK
+abbrev pub mark : List ℕ
+mark = 73 ∷ 78 ∷ 75 ∷ []
+
+abbrev pub version : ℕ
+version = 1
+
+-- some numbers of two bytes, unsigned and signed
+abbrev pub words : List ℕ → List ℕ
+words [] = []
+words (n ∷ ns) = bytesOf n ++ words ns
+
+abbrev pub coordinates : List ℤ → List ℕ
+coordinates [] = []
+coordinates (z ∷ zs) = bytesOf (bitsOf z) ++ coordinates zs
+
+unfoldable pub headerBytes : Header → List ℕ
+headerBytes d = mark ++ words (version ∷ d .w ∷ d .h ∷ []) ++ d .background ∷ []
+
+unfoldable pub kindOf : Record → ℕ
+kindOf end = 0
+kindOf (setting (clip c)) = 1
+kindOf (setting (level v)) = 2
+kindOf (shape (line l)) = cond (l .exact) 3 4
+kindOf (shape (disc d)) = 5
+kindOf (shape (ring g)) = 6
+
+unfoldable pub fieldsOf : Record → List ℕ
+fieldsOf end = []
+fieldsOf (setting (clip c)) = words (c .x0 ∷ c .y0 ∷ c .x1 ∷ c .y1 ∷ [])
+fieldsOf (setting (level v)) = v ∷ []
+fieldsOf (shape (line l)) = coordinates (l .x0 ∷ l .y0 ∷ l .x1 ∷ l .y1 ∷ [])
+fieldsOf (shape (disc d)) = coordinates (d .x ∷ d .y ∷ []) ++ d .radius ∷ []
+fieldsOf (shape (ring g)) = coordinates (g .x ∷ g .y ∷ []) ++ g .radius ∷ g .width ∷ []
+
+abbrev pub recordBytes : Record → List ℕ
+recordBytes r = kindOf r ∷ fieldsOf r
+
+-- ---- the header and the record that stand at the front of the bytes s
+
+abbrev pub wordAt : List ℕ → ℕ → ℕ
+wordAt s i = wordOf (getD s i 0) (getD s (i + 1) 0)
+
+abbrev pub coordinateAt : List ℕ → ℕ → ℤ
+coordinateAt s i = signedOf (wordAt s i)
+
+abbrev pub headerAt : List ℕ → Header
+headerAt s = record { w = wordAt s 5; h = wordAt s 7; background = getD s 9 0 }
+
+abbrev pub clipAt : List ℕ → Clip
+clipAt s = record { x0 = wordAt s 1; y0 = wordAt s 3; x1 = wordAt s 5; y1 = wordAt s 7 }
+
+abbrev pub lineAt : Bool → List ℕ → Line
+lineAt exact s =
+    record { exact = exact; x0 = coordinateAt s 1; y0 = coordinateAt s 3; x1 = coordinateAt s 5; y1 = coordinateAt s 7 }
+
+abbrev pub discAt : List ℕ → Disc
+discAt s = record { x = coordinateAt s 1; y = coordinateAt s 3; radius = getD s 5 0 }
+
+abbrev pub ringAt : List ℕ → Ring
+ringAt s = record { x = coordinateAt s 1; y = coordinateAt s 3; radius = getD s 5 0; width = getD s 6 0 }
+
+abbrev pub kindAt : List ℕ → ℕ
+kindAt s = getD s 0 0
+
+abbrev pub sizeAt : List ℕ → ℕ
+sizeAt s = kindSize (kindAt s)
+
+-- the record of kind k
+unfoldable pub decoded : ℕ → List ℕ → Record
+decoded k s =
+    cond (eqb k 1) (setting (clip (clipAt s)))
+    (cond (eqb k 2) (setting (level (getD s 1 0)))
+    (cond (eqb k 3) (shape (line (lineAt true s)))
+    (cond (eqb k 4) (shape (line (lineAt false s)))
+    (cond (eqb k 5) (shape (disc (discAt s)))
+    (cond (eqb k 6) (shape (ring (ringAt s)))
+    end)))))
+
+abbrev pub recordAt : List ℕ → Record
+recordAt s = decoded (kindAt s) s
+
+-- a record of a known kind stands whole at the front of s
+pub record Whole (s : List ℕ) : Type 0 where
+  pub known : 0 < sizeAt s
+  pub fits : sizeAt s ≤ length s
+
+-- ---- the bytes of a record in an array of ten
+
+-- bytes with zeros behind them
+abbrev pub padded : List ℕ → List ℕ
+padded bs = bs ++ replicate (10 - length bs) 0
+
+-- a radius and a width are one byte each
+unfoldable pub OneByte : Shape → Type 0
+OneByte (line l) = Unit {0}
+OneByte (disc d) = d .radius ≤ 255
+OneByte (ring g) = (g .radius ≤ 255) × (g .width ≤ 255)
+
+abbrev pub OneByteRecord : Record → Type 0
+OneByteRecord end = Unit {0}
+OneByteRecord (setting g) = Unit {0}
+OneByteRecord (shape s) = OneByte s

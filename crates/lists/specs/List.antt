@@ -1,0 +1,69 @@
+-- "A list is tried": the refusals of a whole list in their order, each with its place, and the records of an accepted one.
+use mathlib.Core.Bool.{Bool, not, cond, _&&_}
+use mathlib.Core.List.{List, [], _∷_}
+use Prim.Native.Nat.{ℕ, zero, suc, _+_, _*_}
+use lib.Dec.{ltb, eqb}
+use lib.ListN.{length, getD, drop}
+use Rattle.shapes.specs.Limits.{first, sizeFault}
+use Rattle.shapes.specs.declared.Record.{Record}
+use Rattle.lists.specs.Format.{listMost, headerSize, mark, version, wordAt, headerAt, kindAt, sizeAt, recordAt}
+use Rattle.lists.specs.Read.{tried, readFault}
+use Rattle.lists.specs.declared.format.Header.{Header}
+use Rattle.lists.specs.declared.check.Checked.{Checked}
+use Rattle.lists.specs.declared.check.Checked.the-variants.{Accepted, Refused}
+
+-- the records of a list, the end record last; or the number of its first fault and the place
+pub data Records : Type 0 where
+  accepted : List Record → Records
+  refused : ℕ → ℕ → Records
+
+abbrev pub markAt : List ℕ → ℕ → Bool
+markAt s i = eqb (getD s i 0) (getD mark i 0)
+
+abbrev pub hasMark : List ℕ → Bool
+hasMark s = markAt s 0 && markAt s 1 && markAt s 2
+
+-- 12; 5 under 10 bytes; 1; 2; 3; 21 for a page of n bytes
+unfoldable pub headerFault : List ℕ → ℕ → ℕ
+headerFault s n =
+    first
+    ((ltb listMost (length s), 12)
+    ∷ (ltb (length s) headerSize, 5)
+    ∷ (not (hasMark s), 1)
+    ∷ (not (eqb (wordAt s 3) version), 2)
+    ∷ tried (sizeFault (headerAt s .w) (headerAt s .h))
+    ∷ (ltb n (headerAt s .w * headerAt s .h), 21)
+    ∷ [])
+
+-- r in front of the records that follow it
+abbrev pub onto : Record → Records → Records
+onto r (accepted rs) = accepted (r ∷ rs)
+onto r (refused f place) = refused f place
+
+-- behind the end record: 6, at the first surplus byte
+abbrev pub behindEnd : List ℕ → ℕ → Records
+behindEnd s place = cond (ltb 0 (length s)) (refused 6 place) (accepted [])
+
+-- the records of the bytes s that begin at a place: 4, 5 and 7 to 11 of each record, at its first byte.
+-- A record has a byte at least, so that the fuel lasts if it is above the length.
+unfoldable pub recordsFrom : ℕ → ℕ → ℕ → List ℕ → ℕ → Records
+recordsFrom zero w h s place = refused 5 place
+recordsFrom (suc fuel) w h s place =
+    cond (ltb 0 (readFault w h s)) (refused (readFault w h s) place)
+    (onto (recordAt s)
+    (cond (eqb (kindAt s) 0)
+    (behindEnd (drop (sizeAt s) s) (place + sizeAt s))
+    (recordsFrom fuel w h (drop (sizeAt s) s) (place + sizeAt s))))
+
+-- a whole list s, for a page of n bytes
+unfoldable pub recordsOf : List ℕ → ℕ → Records
+recordsOf s n =
+    cond (ltb 0 (headerFault s n)) (refused (headerFault s n) 0)
+    (recordsFrom (suc (length s)) (headerAt s .w) (headerAt s .h) (drop headerSize s) headerSize)
+
+abbrev pub checkedAs : Header → Records → Checked
+checkedAs d (accepted rs) = Accepted d
+checkedAs d (refused f place) = Refused f place
+
+abbrev pub checkedOf : List ℕ → ℕ → Checked
+checkedOf s n = checkedAs (headerAt s) (recordsOf s n)

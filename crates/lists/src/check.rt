@@ -1,0 +1,102 @@
+// Checks a whole list.
+ghost use mathlib.Core.Path.{_≡_};
+ghost use Prim.Native.Nat.{suc, _≤_};
+ghost use lib.ListN.{length, drop};
+ghost use Rattle.lists.specs.Format.{headerSize};
+ghost use Rattle.lists.specs.List.{hasMark, headerFault, recordsFrom, checkedAs, checkedOf};
+use super::format::HEADER_SIZE;
+use super::format::Header;
+use super::format::LIST_MOST;
+use super::format::VERSION;
+use super::format::kind_size;
+use super::format::read_header;
+use super::format::word_at;
+use super::read::read_fault;
+
+// What the check answers: the header of an accepted list, or the number of the refusal and its place.
+pub enum Checked {
+    Accepted(Header),
+    Refused { number: u8, place: usize },
+}
+
+// Whether the letters INK stand at the front.
+fn has_mark(list: &[u8]) -> bool
+    requires { ⌜ headerSize ≤ length (now list) ⌝ }
+    ensures { λ r. ⌜ r ≡ hasMark (now (list .entry)) ⌝ }
+{
+    if list[0] != b'I' {
+        return false;
+    }
+    if list[1] != b'N' {
+        return false;
+    }
+    list[2] == b'K'
+}
+
+// The first refusal of the header for a page of so many bytes, or 0.
+fn header_fault(list: &[u8], page: usize) -> u8
+    ensures { λ r. ⌜ r ≡ headerFault (now (list .entry)) page ⌝ }
+{
+    if LIST_MOST < list.len() {
+        return 12;
+    }
+    if list.len() < HEADER_SIZE {
+        return 5;
+    }
+    if !has_mark(list) {
+        return 1;
+    }
+    if word_at(list, 3) != VERSION {
+        return 2;
+    }
+    let header = read_header(list);
+    let size = shapes::size_fault(header.w, header.h);
+    if 0 < size {
+        return size;
+    }
+    if (page as u64) < numbers::product(header.w as u64, header.h as u64) {
+        return 21;
+    }
+    0
+}
+
+// Tries the records one after the other.
+fn check_records(list: &[u8], header: Header) -> Checked
+    requires { ⌜ headerSize ≤ length (now list) ⌝ }
+    ensures { λ r. ⌜ r ≡ checkedAs header (recordsFrom (suc (length (now (list .entry)))) (header .w) (header .h) (drop headerSize (now (list .entry))) headerSize) ⌝ }
+{
+    let w = header.w;
+    let h = header.h;
+    let mut place = HEADER_SIZE;
+    loop {
+        let fault = read_fault(&list[place..], w, h);
+        if 0 < fault {
+            return Checked::Refused {
+                number: fault,
+                place,
+            };
+        }
+        let kind = list[place];
+        place = place + kind_size(kind);
+        if kind == 0 {
+            if place < list.len() {
+                return Checked::Refused { number: 6, place };
+            }
+            return Checked::Accepted(header);
+        }
+    }
+}
+
+// Checks a list for a page of so many bytes.
+pub fn check_list(list: &[u8], page: usize) -> Checked
+    ensures { λ r. ⌜ r ≡ checkedOf (now (list .entry)) page ⌝ }
+{
+    let fault = header_fault(list, page);
+    if 0 < fault {
+        return Checked::Refused {
+            number: fault,
+            place: 0,
+        };
+    }
+    check_records(list, read_header(list))
+}

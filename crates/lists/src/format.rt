@@ -1,0 +1,266 @@
+// The bytes of headers and records.
+ghost use mathlib.Core.Path.{_≡_};
+ghost use Prim.Native.Nat.{_+_, _≤_};
+ghost use lib.ListN.{length};
+ghost use mathlib.Core.Bool.{cond};
+ghost use mathlib.Core.List.{[], _∷_, _++_};
+ghost use Rattle.lists.specs.Format.{kindSize, words, coordinates, headerBytes, recordBytes, wordAt, coordinateAt, headerAt, clipAt, lineAt, discAt, ringAt, recordAt, Whole, padded, OneByte, OneByteRecord};
+use shapes::Clip;
+use shapes::Disc;
+use shapes::Line;
+use shapes::Record;
+use shapes::Ring;
+use shapes::Setting;
+use shapes::Shape;
+
+// The version of the format.
+pub const VERSION: u16 = 1;
+
+// How many bytes a header has.
+pub const HEADER_SIZE: usize = 10;
+
+// How many bytes a list may have.
+pub const LIST_MOST: usize = 65536;
+
+// What a header tells: W, H and the background.
+pub struct Header {
+    pub w: u16,
+    pub h: u16,
+    pub background: u8,
+}
+
+// How many bytes a record of a kind has, and 0 for an unknown kind.
+pub fn kind_size(kind: u8) -> usize
+    ensures { λ r. ⌜ r ≡ kindSize kind ⌝ }
+{
+    match kind {
+        0 => 1,
+        1 => 9,
+        2 => 2,
+        3 => 9,
+        4 => 9,
+        5 => 6,
+        6 => 7,
+        _ => 0,
+    }
+}
+
+// The two bytes at a place, the low one first.
+pub(crate) fn word_at(list: &[u8], place: usize) -> u16
+    requires { ⌜ place + 2 ≤ length (now list) ⌝ }
+    ensures { λ r. ⌜ r ≡ wordAt (now (list .entry)) place ⌝ }
+{
+    numbers::word(list[place], list[place + 1])
+}
+
+// The coordinate at a place.
+fn coordinate_at(list: &[u8], place: usize) -> i16
+    requires { ⌜ place + 2 ≤ length (now list) ⌝ }
+    ensures { λ r. ⌜ r ≡ coordinateAt (now (list .entry)) place ⌝ }
+{
+    numbers::signed(word_at(list, place))
+}
+
+fn clip_at(list: &[u8]) -> Clip
+    requires { ⌜ 9 ≤ length (now list) ⌝ }
+    ensures { λ r. ⌜ r ≡ clipAt (now (list .entry)) ⌝ }
+{
+    Clip {
+        x0: word_at(list, 1),
+        y0: word_at(list, 3),
+        x1: word_at(list, 5),
+        y1: word_at(list, 7),
+    }
+}
+
+fn line_at(exact: bool, list: &[u8]) -> Line
+    requires { ⌜ 9 ≤ length (now list) ⌝ }
+    ensures { λ r. ⌜ r ≡ lineAt exact (now (list .entry)) ⌝ }
+{
+    Line {
+        exact,
+        x0: coordinate_at(list, 1),
+        y0: coordinate_at(list, 3),
+        x1: coordinate_at(list, 5),
+        y1: coordinate_at(list, 7),
+    }
+}
+
+fn disc_at(list: &[u8]) -> Disc
+    requires { ⌜ 6 ≤ length (now list) ⌝ }
+    ensures { λ r. ⌜ r ≡ discAt (now (list .entry)) ⌝ }
+{
+    Disc {
+        x: coordinate_at(list, 1),
+        y: coordinate_at(list, 3),
+        radius: list[5] as u16,
+    }
+}
+
+fn ring_at(list: &[u8]) -> Ring
+    requires { ⌜ 7 ≤ length (now list) ⌝ }
+    ensures { λ r. ⌜ r ≡ ringAt (now (list .entry)) ⌝ }
+{
+    Ring {
+        x: coordinate_at(list, 1),
+        y: coordinate_at(list, 3),
+        radius: list[5] as u16,
+        width: list[6] as u16,
+    }
+}
+
+// The record whose bytes stand at the front.
+pub fn decode(list: &[u8]) -> Record
+    requires { ⌜ Whole (now list) ⌝ }
+    ensures { λ r. ⌜ r ≡ recordAt (now (list .entry)) ⌝ }
+{
+    let kind = list[0];
+    match kind {
+        1 => Record::Setting(Setting::Clip(clip_at(list))),
+        2 => Record::Setting(Setting::Level(list[1])),
+        3 => Record::Shape(Shape::Line(line_at(true, list))),
+        4 => Record::Shape(Shape::Line(line_at(false, list))),
+        5 => Record::Shape(Shape::Disc(disc_at(list))),
+        6 => Record::Shape(Shape::Ring(ring_at(list))),
+        _ => Record::End,
+    }
+}
+
+// The header at the front.
+pub(crate) fn read_header(list: &[u8]) -> Header
+    requires { ⌜ 10 ≤ length (now list) ⌝ }
+    ensures { λ r. ⌜ r ≡ headerAt (now (list .entry)) ⌝ }
+{
+    Header {
+        w: word_at(list, 5),
+        h: word_at(list, 7),
+        background: list[9],
+    }
+}
+
+// A kind byte and four words.
+fn four_words(kind: u8, a: u16, b: u16, c: u16, d: u16) -> [u8; 10]
+    ensures { λ r. ⌜ r ≡ padded (kind ∷ words (a ∷ b ∷ c ∷ d ∷ [])) ⌝ }
+{
+    let p = numbers::word_bytes(a);
+    let q = numbers::word_bytes(b);
+    let r = numbers::word_bytes(c);
+    let s = numbers::word_bytes(d);
+    [kind, p[0], p[1], q[0], q[1], r[0], r[1], s[0], s[1], 0]
+}
+
+// A kind byte, a centre, a radius and a width.
+fn circle_bytes(kind: u8, x: i16, y: i16, radius: u16, width: u16) -> [u8; 10]
+    requires { ⌜ (radius ≤ 255) × (width ≤ 255) ⌝ }
+    ensures { λ r. ⌜ r ≡ padded (kind ∷ coordinates (x ∷ y ∷ []) ++ radius ∷ width ∷ []) ⌝ }
+{
+    let p = numbers::word_bytes(numbers::bits(x));
+    let q = numbers::word_bytes(numbers::bits(y));
+    [
+        kind,
+        p[0],
+        p[1],
+        q[0],
+        q[1],
+        radius as u8,
+        width as u8,
+        0,
+        0,
+        0,
+    ]
+}
+
+// The bytes of a setting, of a shape and of a record, zeros behind them.
+fn setting_bytes(setting: Setting) -> [u8; 10]
+    ensures { λ r. ⌜ r ≡ padded (recordBytes (Record.Setting setting)) ⌝ }
+{
+    match setting {
+        Setting::Clip(clip) => four_words(1, clip.x0, clip.y0, clip.x1, clip.y1),
+        Setting::Level(level) => [2, level, 0, 0, 0, 0, 0, 0, 0, 0],
+    }
+}
+
+// The kind of a line.
+fn line_kind(exact: bool) -> u8
+    ensures { λ r. ⌜ r ≡ cond exact 3 4 ⌝ }
+{
+    if exact { 3 } else { 4 }
+}
+
+fn line_bytes(line: Line) -> [u8; 10]
+    ensures { λ r. ⌜ r ≡ padded (recordBytes (Record.Shape (Shape.Line line))) ⌝ }
+{
+    four_words(
+        line_kind(line.exact),
+        numbers::bits(line.x0),
+        numbers::bits(line.y0),
+        numbers::bits(line.x1),
+        numbers::bits(line.y1),
+    )
+}
+
+fn disc_bytes(disc: Disc) -> [u8; 10]
+    requires { ⌜ OneByte (Shape.Disc disc) ⌝ }
+    ensures { λ r. ⌜ r ≡ padded (recordBytes (Record.Shape (Shape.Disc disc))) ⌝ }
+{
+    circle_bytes(5, disc.x, disc.y, disc.radius, 0)
+}
+
+fn ring_bytes(ring: Ring) -> [u8; 10]
+    requires { ⌜ OneByte (Shape.Ring ring) ⌝ }
+    ensures { λ r. ⌜ r ≡ padded (recordBytes (Record.Shape (Shape.Ring ring))) ⌝ }
+{
+    circle_bytes(6, ring.x, ring.y, ring.radius, ring.width)
+}
+
+fn shape_bytes(shape: Shape) -> [u8; 10]
+    requires { ⌜ OneByte shape ⌝ }
+    ensures { λ r. ⌜ r ≡ padded (recordBytes (Record.Shape shape)) ⌝ }
+{
+    match shape {
+        Shape::Line(line) => line_bytes(line),
+        Shape::Disc(disc) => disc_bytes(disc),
+        Shape::Ring(ring) => ring_bytes(ring),
+    }
+}
+
+pub(crate) fn record_bytes(rec: Record) -> [u8; 10]
+    requires { ⌜ OneByteRecord rec ⌝ }
+    ensures { λ r. ⌜ r ≡ padded (recordBytes rec) ⌝ }
+{
+    match rec {
+        Record::End => [0; 10],
+        Record::Setting(setting) => setting_bytes(setting),
+        Record::Shape(shape) => shape_bytes(shape),
+    }
+}
+
+// How many bytes a record has.
+pub(crate) fn record_size(rec: Record) -> usize
+    requires { ⌜ OneByteRecord rec ⌝ }
+    ensures { λ r. ⌜ r ≡ length (recordBytes rec) ⌝ }
+{
+    let bytes = record_bytes(rec);
+    kind_size(bytes[0])
+}
+
+// The bytes of a header.
+pub(crate) fn header_bytes(header: Header) -> [u8; 10]
+    ensures { λ r. ⌜ r ≡ headerBytes header ⌝ }
+{
+    let v = numbers::word_bytes(VERSION);
+    let w = numbers::word_bytes(header.w);
+    let h = numbers::word_bytes(header.h);
+    [
+        b'I',
+        b'N',
+        b'K',
+        v[0],
+        v[1],
+        w[0],
+        w[1],
+        h[0],
+        h[1],
+        header.background,
+    ]
+}

@@ -1,0 +1,130 @@
+// Writes a header or a record into a list.
+ghost use mathlib.Core.Path.{_≡_};
+ghost use mathlib.Core.Bool.{_||_};
+ghost use Prim.Native.Nat.{_+_, _≤_};
+ghost use lib.Dec.{ltb};
+ghost use lib.ListN.{length};
+ghost use lib.Seq.{paste};
+ghost use Rattle.lists.specs.Format.{headerSize};
+ghost use Rattle.lists.specs.Write.{tooFew, headerWriteFault, recordWriteFault, headerWritten, headerList, recordWritten, recordList};
+use super::format::HEADER_SIZE;
+use super::format::Header;
+use super::format::LIST_MOST;
+use super::format::header_bytes;
+use super::format::record_bytes;
+use super::format::record_size;
+use shapes::Record;
+
+// What the writer answers: the number of the refusal or 0, and the place, W and H from now on.
+pub struct Written {
+    pub code: u8,
+    pub place: usize,
+    pub w: u16,
+    pub h: u16,
+}
+
+// Puts the first n of some bytes into a list, from a place on.
+fn put(list: &mut [u8], place: usize, bytes: [u8; 10], n: usize)
+    requires { ⌜ (n ≤ 10) × (place + n ≤ length (now list)) ⌝ }
+    ensures { λ r. ⌜ now (list .exit) ≡ paste (now (list .entry)) place bytes n ⌝ }
+{
+    let mut i: usize = 0;
+    while i < n {
+        list[place + i] = bytes[i];
+        i += 1;
+    }
+}
+
+// Whether a list of n bytes has no room for a record of some size at a place.
+fn no_room(n: usize, place: usize, size: usize) -> bool
+    requires { ⌜ size ≤ 10 ⌝ }
+    ensures { λ r. ⌜ r ≡ (ltb place headerSize || tooFew n (place + size)) ⌝ }
+{
+    if place < HEADER_SIZE {
+        return true;
+    }
+    if LIST_MOST < place {
+        return true;
+    }
+    if LIST_MOST < place + size {
+        return true;
+    }
+    n < place + size
+}
+
+// The first refusal of a header for a list of n bytes, or 0.
+fn header_write_fault(n: usize, header: Header) -> u8
+    ensures { λ r. ⌜ r ≡ headerWriteFault n header ⌝ }
+{
+    let fault = shapes::size_fault(header.w, header.h);
+    if 0 < fault {
+        return fault;
+    }
+    if n < HEADER_SIZE {
+        return 22;
+    }
+    0
+}
+
+// The first refusal of a record at a place of a list of n bytes, or 0.
+fn record_write_fault(n: usize, place: usize, w: u16, h: u16, rec: Record) -> u8
+    ensures { λ r. ⌜ r ≡ recordWriteFault n place w h rec ⌝ }
+{
+    let page = shapes::size_fault(w, h);
+    if 0 < page {
+        return page;
+    }
+    let fault = shapes::record_fault(w, h, rec);
+    if 0 < fault {
+        return fault;
+    }
+    if no_room(n, place, record_size(rec)) {
+        return 22;
+    }
+    0
+}
+
+// Writes a header to byte 0, from any place.
+pub fn write_header(list: &mut [u8], place: usize, w: u16, h: u16, header: Header) -> Written
+    ensures { λ r. ⌜ (r ≡ headerWritten (now (list .entry)) place w h header) × (now (list .exit) ≡ headerList (now (list .entry)) header) ⌝ }
+{
+    let fault = header_write_fault(list.len(), header);
+    if 0 < fault {
+        return Written {
+            code: fault,
+            place,
+            w,
+            h,
+        };
+    }
+    put(list, 0, header_bytes(header), HEADER_SIZE);
+    Written {
+        code: 0,
+        place: HEADER_SIZE,
+        w: header.w,
+        h: header.h,
+    }
+}
+
+// Writes a record to the place.
+pub fn write_record(list: &mut [u8], place: usize, w: u16, h: u16, rec: Record) -> Written
+    ensures { λ r. ⌜ (r ≡ recordWritten (now (list .entry)) place w h rec) × (now (list .exit) ≡ recordList (now (list .entry)) place w h rec) ⌝ }
+{
+    let fault = record_write_fault(list.len(), place, w, h, rec);
+    if 0 < fault {
+        return Written {
+            code: fault,
+            place,
+            w,
+            h,
+        };
+    }
+    let size = record_size(rec);
+    put(list, place, record_bytes(rec), size);
+    Written {
+        code: 0,
+        place: place + size,
+        w,
+        h,
+    }
+}

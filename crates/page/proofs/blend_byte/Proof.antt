@@ -1,0 +1,53 @@
+use mathlib.Core.Path.{_∙_}
+use native.Mathlib.Omega.{arith}
+use Rattle.page.proofs.Blend.{blend-quotient, quotient-byte, scale-fits, near-enough}
+use borrow.Author.Needs.{needs}
+use Rattle.page.proofs.blend_byte.Statement.{statement}
+use Rattle.page.proofs.blend_byte.Tie as tie
+
+dividend-requires : tie.Need-dividend-requires
+dividend-requires c κs = search needs
+
+mul-near-quotient : tie.Need-mul-near-quotient
+mul-near-quotient c = search needs
+
+near-quotient-requires : tie.Need-near-quotient-requires
+near-quotient-requires c κs =
+    let s = c .before .before in
+    let x = c .before .dividend .ensures .most in
+    let m = s .pre .1 in
+    (omega arith, scale-fits _ (s .args .d) _ x (omega arith) m, omega arith, near-enough _ (s .args .d) _ x (omega arith) m)
+
+cast-result : tie.Need-cast-result
+cast-result c = record { fits = rw (c .near-quotient .ensures) (quotient-byte _ _ (omega arith) (c .before .before .dividend .ensures .most)) }
+
+mul-quotient : tie.Need-mul-quotient
+mul-quotient c = search needs
+
+quotient-requires : tie.Need-quotient-requires
+quotient-requires c κs =
+    let s = c .before .before in
+    (omega arith, omega arith, scale-fits _ (s .args .d) (s .args .m) (c .before .dividend .ensures .most) (omega arith) (s .pre .1))
+
+cast-result-2 : tie.Need-cast-result-2
+cast-result-2 c = record { fits = rw (c .quotient .ensures) (quotient-byte _ _ (omega arith) (c .before .before .dividend .ensures .most)) }
+
+returns : tie.Need-returns
+returns c = c .near-quotient .ensures ∙ blend-quotient _ _ _ _ _ (c .before .before .dividend .ensures)
+
+returns-2 : tie.Need-returns-2
+returns-2 c = c .quotient .ensures ∙ blend-quotient _ _ _ _ _ (c .before .before .dividend .ensures)
+
+pub blend-byte-spec : {M : Type 1} → statement M
+blend-byte-spec =
+    tie.close
+    (tie.spec
+    dividend-requires
+    mul-near-quotient
+    near-quotient-requires
+    cast-result
+    mul-quotient
+    quotient-requires
+    cast-result-2
+    returns
+    returns-2)

@@ -1,0 +1,103 @@
+// Blending, and what is drawn on a lent page.
+ghost use mathlib.Core.Path.{_≡_};
+ghost use Prim.Native.Nat.{_+_, _-_, _*_, _^_, _/_, _≤_, _<_};
+ghost use lib.ListN.{length, getD, set};
+ghost use Rattle.page.specs.Blend.{blend, Coverage, Scale, Dividend};
+ghost use Rattle.page.specs.Page.{over, touch};
+
+// The width and height of a page, and a clip on it.
+pub struct View {
+    pub w: usize,
+    pub h: usize,
+    pub x0: usize,
+    pub y0: usize,
+    pub x1: usize,
+    pub y1: usize,
+}
+
+// The scale of the blends over d.
+pub fn scale(d: u64) -> u64
+    requires { ⌜ (0 < d) × (d ≤ 2 ^ 30) ⌝ }
+    ensures { λ m. ⌜ Scale d m ⌝ }
+{
+    36028797018963968 / d + 1
+}
+
+// x over d by a scale m of about 2^56 over d. The quotient that m gives is tested, so any m that fits will do.
+fn quotient(x: u64, d: u64, m: u64) -> u64
+    requires { ⌜ (0 < d) × (d ≤ 2 ^ 31) × (x * m < 2 ^ 64) ⌝ }
+    ensures { λ q. ⌜ q ≡ x / d ⌝ }
+{
+    let q = x * m / 72057594037927936;
+    let p = q * d;
+    if p <= x {
+        if x - p < d {
+            return q;
+        }
+    }
+    x / d
+}
+
+// x over d by a scale m that is near enough for x: it needs no test.
+fn near_quotient(x: u64, d: u64, m: u64) -> u64
+    requires { ⌜ (0 < d) × (x * m < 2 ^ 64) × (2 ^ 56 ≤ m * d) × (x * (m * d - 2 ^ 56) < 2 ^ 56) ⌝ }
+    ensures { λ q. ⌜ q ≡ x / d ⌝ }
+{
+    x * m / 72057594037927936
+}
+
+// What a blend divides by 2 d.
+fn dividend(u: u8, v: u8, n: u64, d: u64) -> u64
+    requires { ⌜ Coverage n d ⌝ }
+    ensures { λ x. ⌜ Dividend u v n d x ⌝ }
+{
+    2 * ((u as u64) * (d - n) + (v as u64) * n) + d
+}
+
+// Level v over byte u at coverage n over d, by the scale of d: up to 2^23 that is near enough.
+pub fn blend_byte(u: u8, v: u8, n: u64, d: u64, m: u64) -> u8
+    requires { ⌜ Coverage n d × Scale d m ⌝ }
+    ensures { λ r. ⌜ r ≡ blend u v n d ⌝ }
+{
+    let x = dividend(u, v, n, d);
+    if d <= 8388608 {
+        near_quotient(x, 2 * d, m) as u8
+    } else {
+        quotient(x, 2 * d, m) as u8
+    }
+}
+
+// Level v over byte u at coverage n over 512.
+pub fn blend_byte_512(u: u8, v: u8, n: u64) -> u8
+    requires { ⌜ n ≤ 512 ⌝ }
+    ensures { λ r. ⌜ r ≡ blend u v n 512 ⌝ }
+{
+    (dividend(u, v, n, 512) / 1024) as u8
+}
+
+// Blends byte k of a page.
+pub fn put(page: &mut [u8], k: usize, v: u8, n: u64, d: u64, m: u64)
+    requires { ⌜ (k < length (now page)) × Coverage n d × Scale d m ⌝ }
+    ensures { λ _. ⌜ now (page .exit) ≡ set (now (page .entry)) k (blend (getD (now (page .entry)) k 0) v n d) ⌝ }
+{
+    let u = page[k];
+    page[k] = blend_byte(u, v, n, d, m);
+}
+
+// Gives every byte of a stretch the level v.
+pub fn fill(stretch: &mut [u8], v: u8)
+    ensures { λ _. ⌜ now (stretch .exit) ≡ over (λ _ _. v) (now (stretch .entry)) ⌝ }
+{
+    let mut i = 0;
+    while i < stretch.len() {
+        stretch[i] = v;
+        i += 1;
+    }
+}
+
+// 1 for a pixel of coverage n that is touched, else 0.
+pub fn touched(n: u64) -> u64
+    ensures { λ r. ⌜ r ≡ touch n ⌝ }
+{
+    if 0 < n { 1 } else { 0 }
+}

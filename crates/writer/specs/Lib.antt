@@ -1,0 +1,2 @@
+-- The writer of a drawing list.
+pub mod Writer

@@ -1,0 +1,40 @@
+-- A writer after a header and after a record: the functions of `lists` on its list, its place, its W and its H.
+use mathlib.Core.List.{List}
+use Prim.Native.Nat.{ℕ}
+use denote.Ref.{now, at-last}
+use Rattle.shapes.specs.declared.Record.{Record}
+use Rattle.lists.specs.Write.{headerWritten, headerList, recordWritten, recordList}
+use Rattle.lists.specs.declared.format.Header.{Header}
+use Rattle.lists.specs.declared.write.Written.{Written}
+use Rattle.writer.specs.declared.Writer.{Writer}
+use Rattle.writer.specs.declared.Pair.{Pair}
+
+-- the answer of a write by a writer
+abbrev pub headerAnswer : Writer → Header → Written
+headerAnswer x d = headerWritten (now (x .list)) (x .place) (x .w) (x .h) d
+
+abbrev pub recordAnswer : Writer → Record → Written
+recordAnswer x r = recordWritten (now (x .list)) (x .place) (x .w) (x .h) r
+
+-- the writer with a list and the place, W and H of an answer; `at-last` keeps the borrow and changes what it holds
+abbrev pub moved : Writer → List ℕ → Written → Writer
+moved x l a = record { list = at-last (x .list) l; place = a .place; w = a .w; h = a .h }
+
+abbrev pub headed : Writer → Header → Writer
+headed x d = moved x (headerList (now (x .list)) d) (headerAnswer x d)
+
+abbrev pub recorded : Writer → Record → Writer
+recorded x r = moved x (recordList (now (x .list)) (x .place) (x .w) (x .h) r) (recordAnswer x r)
+
+-- a header by a writer at place 0 that holds W and H of 0, and a record behind it
+abbrev pub first : List ℕ → Header → Written
+first l d = headerWritten l 0 0 0 d
+
+abbrev pub second : List ℕ → Header → Record → Written
+second l d r = recordWritten (headerList l d) (first l d .place) (first l d .w) (first l d .h) r
+
+abbrev pub pairOf : List ℕ → Header → Record → Pair
+pairOf l d r = record { header = first l d .code; rec = second l d r .code; place = second l d r .place }
+
+abbrev pub pairList : List ℕ → Header → Record → List ℕ
+pairList l d r = recordList (headerList l d) (first l d .place) (first l d .w) (first l d .h) r

@@ -1,0 +1,73 @@
+// The writer of a drawing list: the list being written together with the place reached, W and H.
+// The work is done by `lists::write`; the thin functions take the writer apart and store what is answered.
+ghost use mathlib.Core.Path.{_≡_};
+ghost use Rattle.writer.specs.Writer.{headerAnswer, recordAnswer, headed, recorded, pairOf, pairList};
+use lists::format::Header;
+use shapes::Record;
+
+pub struct Writer<'a> {
+    pub list: &'a mut [u8],
+    pub place: usize,
+    pub w: u16,
+    pub h: u16,
+}
+
+// Writes a header to byte 0. The answer is the number of the refusal, or 0.
+pub fn write_header<'s, 'a>(writer: &'s mut Writer<'a>, header: Header) -> u8
+    ensures { λ r. ⌜ (r ≡ headerAnswer (now (writer .entry)) header .code) × (now (writer .exit) ≡ headed (now (writer .entry)) header) ⌝ }
+{
+    let written = lists::write::write_header(
+        &mut *writer.list,
+        writer.place,
+        writer.w,
+        writer.h,
+        header,
+    );
+    writer.place = written.place;
+    writer.w = written.w;
+    writer.h = written.h;
+    written.code
+}
+
+// Writes a record to the place. The answer is the number of the refusal, or 0.
+pub fn write_record<'s, 'a>(writer: &'s mut Writer<'a>, rec: Record) -> u8
+    ensures { λ r. ⌜ (r ≡ recordAnswer (now (writer .entry)) rec .code) × (now (writer .exit) ≡ recorded (now (writer .entry)) rec) ⌝ }
+{
+    let written = lists::write::write_record(
+        &mut *writer.list,
+        writer.place,
+        writer.w,
+        writer.h,
+        rec,
+    );
+    writer.place = written.place;
+    writer.w = written.w;
+    writer.h = written.h;
+    written.code
+}
+
+// The answers for a header and for one record behind it, and the place that is reached.
+pub struct Pair {
+    pub header: u8,
+    pub rec: u8,
+    pub place: usize,
+}
+
+// Writes a header and one record, from plain parameters.
+pub fn write_pair(list: &mut [u8], header: Header, rec: Record) -> Pair
+    ensures { λ r. ⌜ (r ≡ pairOf (now (list .entry)) header rec) × (now (list .exit) ≡ pairList (now (list .entry)) header rec) ⌝ }
+{
+    let mut writer = Writer {
+        list: list,
+        place: 0,
+        w: 0,
+        h: 0,
+    };
+    let first = write_header(&mut writer, header);
+    let second = write_record(&mut writer, rec);
+    Pair {
+        header: first,
+        rec: second,
+        place: writer.place,
+    }
+}
