@@ -1,10 +1,10 @@
 -- What is tried of a shape on a page, and what a shape without a refusal has.
 use mathlib.Core.Bool.{Bool, true, false, not, cond, _&&_, _||_}
 use mathlib.Core.Path.{_≡_, refl, sym, _∙_}
-use Prim.Native.Nat.{ℕ, _*_, _≤_, _<_}
+use Prim.Native.Nat.{ℕ, suc, _*_, _≤_, _<_}
 use native.Mathlib.Omega.{arith}
 use lib.Dec.{ltb, leb}
-use borrow.Author.Tests.{ltb-false, leb-true}
+use borrow.Author.Tests.{ltb-false, leb-true, le-ltb}
 use Rattle.shapes.specs.Limits.{offSize, offPage, offRange, coincide, offRadius, offWidth, sizeFault, clipFault, shapeFault}
 use Rattle.shapes.specs.declared.Clip.{Clip}
 use Rattle.shapes.specs.declared.Shape.{Shape}
@@ -76,3 +76,13 @@ draw-lawful w h size c s = go (offSize w h) (ltb size (w * h)) (offPage w h c) r
     go false true d e₁ e₂ e₃ z = absurd (omega arith)
     go false false true e₁ e₂ e₃ z = absurd (omega arith)
     go false false false e₁ e₂ e₃ z = (lawful-view w h size c e₁ e₂ e₃, z)
+
+-- the parts of a view, each without a fault
+pub view-lawful : (w h size : ℕ) (c : Clip) → sizeFault w h ≡ 0 → w * h ≤ size → clipFault w h c ≡ 0 → Lawful (viewOf w h c) size
+unfolding sizeFault clipFault
+view-lawful w h size c e₁ e₂ e₃ =
+    lawful-view w h size c (none (offSize w h) 2 e₁) (le-ltb size (w * h) e₂) (none (offPage w h c) 7 e₃)
+  where
+    none : (a : Bool) (n : ℕ) → cond a (suc n) 0 ≡ 0 → a ≡ false
+    none true n z = absurd (omega arith)
+    none false n z = refl

@@ -1,0 +1,88 @@
+-- The bound on a byte's distance from the exact blend, for any scale on which bytes have places.
+use mathlib.Core.Path.{refl, subst}
+use mathlib.Core.List.{List, [], _∷_}
+use Prim.Native.Nat.{ℕ, _+_, _≤_, _<_}
+use native.Mathlib.Omega.{arith}
+use Rattle.numbers.specs.Fraction.{Frac, _⊕_, Within}
+use Rattle.numbers.proofs.Fraction.{⊕-comm, triangle, within-same}
+use Rattle.bound.specs.Exact.{Touch, Sound, AllSound, after, mix, whole, times}
+use Rattle.bound.proofs.Fractions.{mix-den, mix-within, mix-off}
+
+-- all that the bound rests on: blending bytes gives a byte; its place is within half of the mixture of their places; no two
+-- places are more than span apart
+pub record Scale (place : ℕ → ℕ) (blend : ℕ → ℕ → Frac → ℕ) (half : Frac) (span : ℕ) : Type 0 where
+  pub byte : (u v : ℕ) (c : Frac) → u ≤ 255 → v ≤ 255 → c .num ≤ c .den → 0 < c .den → blend u v c ≤ 255
+  pub rounds : (u v : ℕ) (c : Frac) → u ≤ 255 → v ≤ 255 → c .num ≤ c .den → 0 < c .den
+      → Within (whole (place (blend u v c))) (mix (whole (place u)) (place v) c) half
+  pub reach : (u v : ℕ) → u ≤ 255 → v ≤ 255 → place u ≤ place v + span
+
+-- ---- what one touch makes of the byte, of the exact blend and of the bound
+abbrev pub byteStep : (ℕ → ℕ → Frac → ℕ) → ℕ → Touch → ℕ
+byteStep blend u t = blend u (t .level) (t .drawn)
+
+abbrev pub exactStep : (ℕ → ℕ) → Frac → Touch → Frac
+exactStep place e t = mix e (place (t .level)) (t .exact)
+
+abbrev pub boundStep : Frac → ℕ → Frac → Touch → Frac
+boundStep half span b t = b ⊕ (half ⊕ times span (t .off))
+
+module _ (place : ℕ → ℕ) (blend : ℕ → ℕ → Frac → ℕ) (half : Frac) (span : ℕ) (scale : Scale place blend half span) where
+  -- u is a byte, and its place is within b of e
+  abbrev pub Close : ℕ → Frac → Frac → Type 0
+  Close u e b = (u ≤ 255) × Within (whole (place u)) e b
+
+  -- from the rounded blend to the drawn mixture (half), to the exact mixture of the same byte (span times off), to that of e (b)
+  pub close-step : (u : ℕ) (e b : Frac) (t : Touch) → Sound t → Close u e b → Close (byteStep blend u t) (exactStep place e t) (boundStep half span b t)
+  close-step u e b t s h = (
+    scale .byte u (t .level) (t .drawn) (h .0) (s .level-le) (s .drawn-le) (s .drawn-pos),
+    subst (λ (x : Frac). Within new (exactStep place e t) (b ⊕ x)) (⊕-comm off half)
+        (triangle new exact (exactStep place e t) (off ⊕ half) b (mix-den (whole p) v (t .exact) (omega arith) (s .exact-pos))
+        (triangle new drawn exact half off (mix-den (whole p) v (t .drawn) (omega arith) (s .drawn-pos)) rounded moved)
+        (mix-within (whole p) e b v (t .exact) (s .exact-le) (h .1))),
+  )
+    where
+      p : ℕ
+      p = place u
+
+      v : ℕ
+      v = place (t .level)
+
+      off : Frac
+      off = times span (t .off)
+
+      new : Frac
+      new = whole (place (byteStep blend u t))
+
+      drawn : Frac
+      drawn = mix (whole p) v (t .drawn)
+
+      exact : Frac
+      exact = mix (whole p) v (t .exact)
+
+      rounded : Within new drawn half
+      rounded = scale .rounds u (t .level) (t .drawn) (h .0) (s .level-le) (s .drawn-le) (s .drawn-pos)
+
+      moved : Within drawn exact off
+      moved =
+          let up = scale .reach (t .level) u (s .level-le) (h .0) in
+          let down = scale .reach u (t .level) (h .0) (s .level-le) in
+          mix-off p v span (t .off) up down (t .drawn) (t .exact) (s .drawn-le) (s .exact-le) (s .near)
+
+  close-from : (u : ℕ) (e b : Frac) (ts : List Touch) → AllSound ts → Close u e b
+      → Close (after (byteStep blend) u ts) (after (exactStep place) e ts) (after (boundStep half span) b ts)
+  unfolding after
+  close-from u e b [] s h = h
+  close-from u e b (t ∷ ts) s h =
+      close-from (byteStep blend u t) (exactStep place e t) (boundStep half span b t) ts (s .1) (close-step u e b t (s .0) h)
+
+  -- from any byte, after any touches
+  pub close : (u : ℕ) (ts : List Touch) → u ≤ 255 → AllSound ts
+      → Close (after (byteStep blend) u ts) (after (exactStep place) (whole (place u)) ts) (after (boundStep half span) (whole 0) ts)
+  close u ts hu s = close-from u (whole (place u)) (whole 0) ts s (hu, within-same (whole (place u)) (whole (place u)) (whole 0) refl)
+
+-- a denominator that no touch makes 0 is not 0 after them
+pub after-den : (f : Frac → Touch → Frac) → ((e : Frac) (t : Touch) → Sound t → 0 < e .den → 0 < f e t .den)
+    → (e : Frac) (ts : List Touch) → AllSound ts → 0 < e .den → 0 < after f e ts .den
+unfolding after
+after-den f keep e [] s pos = pos
+after-den f keep e (t ∷ ts) s pos = after-den f keep (f e t) ts (s .1) (keep e t (s .0) pos)

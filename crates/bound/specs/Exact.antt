@@ -1,0 +1,65 @@
+-- One pixel under the shapes that touch it: its byte, its exact blend, and the bound on how far the two are apart.
+use mathlib.Core.List.{List, [], _∷_}
+use Prim.Native.Nat.{ℕ, _+_, _*_, _-_, _≤_, _<_}
+use Rattle.numbers.specs.Fraction.{Frac, _over_, _⊕_, Within}
+use Rattle.page.specs.Blend.{blend}
+
+-- a whole number as a fraction
+abbrev pub whole : ℕ → Frac
+whole u = u over 1
+
+-- k·p
+abbrev pub times : ℕ → Frac → Frac
+times k p = (k * p .num) over p .den
+
+-- a shape at a pixel that it touches
+pub record Touch : Type 0 where
+  pub level : ℕ
+  -- the coverage that the shape is drawn with, and that of the exact rule
+  pub drawn : Frac
+  pub exact : Frac
+  -- how far the two may be apart: s over 4·l for an approximate line, else 0 over 1
+  pub off : Frac
+
+-- a, changed by each touch in the order of the list
+unfoldable pub after {ℓ} : {A : Type ℓ} → (A → Touch → A) → A → List Touch → A
+after f a [] = a
+after f a (t ∷ ts) = after f (f a t) ts
+
+-- the byte u, blended by each touch with the coverage that is drawn
+unfoldable pub byteAfter : ℕ → List Touch → ℕ
+byteAfter = after (λ u t. blend u (t .level) (t .drawn .num) (t .drawn .den))
+
+-- with c = n over d, the fraction e becomes (e·(d − n) + v·n) over d, which is not rounded
+unfoldable pub mix : Frac → ℕ → Frac → Frac
+mix e v c = (e .num * (c .den - c .num) + v * c .num * e .den) over (e .den * c .den)
+
+-- the exact blend: e, mixed by each touch with the exact coverage
+unfoldable pub exactAfter : Frac → List Touch → Frac
+exactAfter = after (λ e t. mix e (t .level) (t .exact))
+
+-- half a level: what one rounding costs at most
+unfoldable pub half : Frac
+half = 1 over 2
+
+-- how far two levels can be apart
+unfoldable pub span : ℕ
+span = 255
+
+-- half for each touch, and span times what its coverage is off
+unfoldable pub boundOf : List Touch → Frac
+boundOf = after (λ b t. b ⊕ (half ⊕ times span (t .off))) (whole 0)
+
+-- what the coverage rules promise of a touch
+pub record Sound (t : Touch) : Type 0 where
+  pub level-le : t .level ≤ 255
+  pub drawn-le : t .drawn .num ≤ t .drawn .den
+  pub drawn-pos : 0 < t .drawn .den
+  pub exact-le : t .exact .num ≤ t .exact .den
+  pub exact-pos : 0 < t .exact .den
+  pub off-pos : 0 < t .off .den
+  pub near : Within (t .drawn) (t .exact) (t .off)
+
+abbrev pub AllSound : List Touch → Type 0
+AllSound [] = Unit {0}
+AllSound (t ∷ ts) = Sound t × AllSound ts

@@ -1,0 +1,2 @@
+-- What contracts say of a pixel's byte and its exact blend.
+pub mod Exact

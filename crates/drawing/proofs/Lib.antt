@@ -1,0 +1,4 @@
+-- Proofs about a whole list on a page.
+pub mod Shapes
+pub mod Records
+pub mod Bytes

@@ -1,0 +1,87 @@
+-- One shape upon the other: the page, byte by byte, and the touches, pixel by pixel.
+use mathlib.Core.Path.{_≡_, refl, sym, _∙_, ap, ap₂}
+use mathlib.Core.Bool.{Bool, true, false, cond}
+use mathlib.Core.List.{List, [], _∷_, _++_}
+use Prim.Native.Nat.{ℕ, _+_, _*_, _%_, _/_, _≤_, _<_}
+use native.Mathlib.Omega.{arith}
+use lib.ListN.{length, getD}
+use Rattle.numbers.specs.Sum.{sumTo}
+use Rattle.numbers.proofs.Sum.{sum-ext, sum-add, sum-zero}
+use Rattle.page.specs.Blend.{blend}
+use Rattle.page.specs.Page.{over}
+use Rattle.page.proofs.Over.{over-ext, over-over, over-same, length-over}
+use Rattle.bound.specs.Exact.{Touch, after, byteAfter}
+use Rattle.draw.specs.Touch.{touched, pageAfter, touchCount}
+use Rattle.draw.specs.Touch as shape
+use Rattle.drawing.specs.Drawing.{Drawing, touchOf, touchesAt}
+use Rattle.drawing.specs.Page.{pixelsCount, shapesCount}
+use Rattle.drawing.specs.Walk.{shapesPage, painted}
+
+-- ---- some shapes, then others
+
+pub page-then : (w : ℕ) (ds es : List Drawing) (l : List ℕ) → shapesPage w (ds ++ es) l ≡ shapesPage w es (shapesPage w ds l)
+unfolding shapesPage
+page-then w [] es l = refl
+page-then w (d ∷ ds) es l = page-then w ds es (pageAfter w (d .settings .clip) (d .settings .level) (d .shape) l)
+
+pub count-then : (w h : ℕ) (ds es : List Drawing) → shapesCount w h (ds ++ es) ≡ shapesCount w h ds + shapesCount w h es
+unfolding shapesCount
+count-then w h [] es = omega arith
+count-then w h (d ∷ ds) es = omega (arith, count-then w h ds es)
+
+-- ---- the page
+
+-- the byte after the first of some drawings, and then after the rest
+byte-first : (d : Drawing) (ds : List Drawing) (x y u : ℕ)
+    → byteAfter (shape.byteAfter (d .settings .clip) (d .settings .level) (d .shape) x y u) (touchesAt ds x y) ≡ byteAfter u (touchesAt (d ∷ ds) x y)
+unfolding shape.byteAfter touchesAt byteAfter after
+byte-first d ds x y u = go (touched (d .settings .clip) (d .shape) x y)
+  where
+    t : Touch
+    t = touchOf d x y
+
+    go : (k : Bool) → byteAfter (cond k (blend u (t .level) (t .drawn .num) (t .drawn .den)) u) (touchesAt ds x y) ≡ byteAfter u (cond k (t ∷ touchesAt ds x y) (touchesAt ds x y))
+    go true = refl
+    go false = refl
+
+no-touch : (u x y : ℕ) → u ≡ byteAfter u (touchesAt [] x y)
+unfolding byteAfter after touchesAt
+no-touch u x y = refl
+
+pub page-bytes : (w : ℕ) (ds : List Drawing) (l : List ℕ) → shapesPage w ds l ≡ over (λ k u. byteAfter u (touchesAt ds (k % w) (k / w))) l
+unfolding shapesPage pageAfter
+page-bytes w [] l = over-same _ l (λ k _. no-touch (getD l k 0) (k % w) (k / w))
+page-bytes w (d ∷ ds) l =
+    page-bytes w ds (pageAfter w (d .settings .clip) (d .settings .level) (d .shape) l)
+    ∙ over-over _ _ l
+    ∙ over-ext _ _ l (λ k _. byte-first d ds (k % w) (k / w) (getD l k 0))
+
+-- a page of one level b, drawn on
+pub page-painted : (w b : ℕ) (ds : List Drawing) (l : List ℕ) → shapesPage w ds (over (λ _ _. b) l) ≡ painted w b ds l
+unfolding painted
+page-painted w b ds l = page-bytes w ds (over (λ _ _. b) l) ∙ over-over _ _ l
+
+-- ---- the count
+
+count-first : (d : Drawing) (ds : List Drawing) (x y : ℕ)
+    → length (touchesAt (d ∷ ds) x y) ≡ cond (touched (d .settings .clip) (d .shape) x y) 1 0 + length (touchesAt ds x y)
+unfolding touchesAt
+count-first d ds x y = go (touched (d .settings .clip) (d .shape) x y)
+  where
+    go : (k : Bool) → length (cond k (touchOf d x y ∷ touchesAt ds x y) (touchesAt ds x y)) ≡ cond k 1 0 + length (touchesAt ds x y)
+    go true = omega arith
+    go false = omega arith
+
+no-count : (x y : ℕ) → length (touchesAt [] x y) ≡ 0
+unfolding touchesAt
+no-count x y = refl
+
+pub counts-same : (w h : ℕ) (ds : List Drawing) → shapesCount w h ds ≡ pixelsCount w h ds
+unfolding shapesCount pixelsCount touchCount
+counts-same w h [] = sym (sum-zero h _ (λ y _. sum-zero w _ (λ x _. no-count x y)))
+counts-same w h (d ∷ ds) =
+    ap (λ (n : ℕ). touchCount w h (d .settings .clip) (d .shape) + n) (counts-same w h ds)
+    ∙ sym (sum-ext h _ _ (λ y _. sum-ext w _ _ (λ x _. count-first d ds x y) ∙ sum-add w _ _) ∙ sum-add h _ _)
+
+pub length-shapes : (w : ℕ) (ds : List Drawing) (l : List ℕ) → length (shapesPage w ds l) ≡ length l
+length-shapes w ds l = ap length (page-bytes w ds l) ∙ length-over _ l
