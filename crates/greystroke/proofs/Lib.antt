@@ -1,1 +1,2 @@
--- Nothing beside the functions' own proofs.
+-- One law beside the functions' own proofs.
+pub mod Widths

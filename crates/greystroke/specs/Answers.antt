@@ -5,7 +5,7 @@ use Rattle.shapes.specs.declared.Clip.{Clip}
 use Rattle.draw.specs.declared.Outcome.{Outcome}
 use Rattle.draw.specs.declared.Outcome.the-variants.{Touched, Refused as DrawRefused}
 use Prim.Native.Nat.{ℕ}
-use Rattle.greystroke.specs.declared.drawing.DrawAnswer.{DrawAnswer}
+use Rattle.greystroke.specs.declared.shape.DrawAnswer.{DrawAnswer}
 use Rattle.greystroke.specs.declared.query.CoverageAnswer.{CoverageAnswer}
 
 abbrev pub answered : Answer → CoverageAnswer

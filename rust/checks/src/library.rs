@@ -1,8 +1,11 @@
 //! The library's calls on the reference's types, so that answers can be compared.
 
+use crate::notation::Writable;
+use crate::rows::{ShapeCall, Writing};
 use reference::coverage::Fraction;
+use reference::format::Header;
 use reference::refusal::Refusal;
-use reference::shape::Shape;
+use reference::shape::{Clip, Disc, Line, Record, Ring, Setting, Shape};
 
 pub fn coverage(shape: &Shape, x: i16, y: i16) -> Result<Fraction, Refusal> {
     match greystroke::coverage(library_shape(shape), x, y) {
@@ -10,9 +13,120 @@ pub fn coverage(shape: &Shape, x: i16, y: i16) -> Result<Fraction, Refusal> {
             n: cover.n,
             d: cover.d,
         }),
-        Err(refusal) => Err(Refusal {
+        Err(refusal) => Err(without_place(refusal)),
+    }
+}
+
+pub fn draw_shape(call: &mut ShapeCall) -> Result<u64, Refusal> {
+    let size = library_size(call.width, call.height);
+    let clip = library_clip(&call.clip);
+    let shape = library_shape(&call.shape);
+    greystroke::draw_shape(&mut call.page, size, clip, call.level, shape).map_err(without_place)
+}
+
+/// The record and the bytes past it; with a refusal all that was lent.
+pub fn read_record(bytes: &[u8], width: u16, height: u16) -> (Result<Record, Refusal>, &[u8]) {
+    match greystroke::read_record(bytes, library_size(width, height)) {
+        Ok((record, rest)) => (Ok(reference_record(record)), rest),
+        Err(refusal) => (Err(without_place(refusal)), bytes),
+    }
+}
+
+pub fn check_list(list: &[u8], page_length: usize) -> Result<Header, Refusal> {
+    match greystroke::check_list(list, page_length) {
+        Ok(header) => Ok(Header {
+            width: header.size.width,
+            height: header.size.height,
+            background: header.background,
+        }),
+        Err(greystroke::ListRefusal { refusal, place }) => Err(Refusal {
             number: refusal.number(),
-            place: 0,
+            place,
+        }),
+    }
+}
+
+pub fn write(writing: &mut Writing, what: &Writable) -> Result<(), Refusal> {
+    let mut writer = greystroke::Writer {
+        list: &mut writing.list,
+        place: writing.place,
+        size: library_size(writing.width, writing.height),
+    };
+    let outcome = match what {
+        Writable::Header(header) => writer.write_header(greystroke::Header {
+            size: library_size(header.width, header.height),
+            background: header.background,
+        }),
+        Writable::Record(record) => writer.write_record(library_record(record)),
+    };
+    let (place, size) = (writer.place, writer.size);
+    (writing.place, writing.width, writing.height) = (place, size.width, size.height);
+    outcome.map_err(without_place)
+}
+
+/// Calls other than those on a whole list refuse at place 0.
+fn without_place(refusal: greystroke::Refusal) -> Refusal {
+    Refusal {
+        number: refusal.number(),
+        place: 0,
+    }
+}
+
+fn library_size(width: u16, height: u16) -> greystroke::Size {
+    greystroke::Size { width, height }
+}
+
+fn library_clip(clip: &Clip) -> greystroke::Clip {
+    let &Clip { x0, y0, x1, y1 } = clip;
+    greystroke::Clip { x0, y0, x1, y1 }
+}
+
+fn library_record(record: &Record) -> greystroke::Record {
+    match record {
+        Record::End => greystroke::Record::End,
+        Record::Setting(Setting::Clip(clip)) => {
+            greystroke::Record::Setting(greystroke::Setting::Clip(library_clip(clip)))
+        }
+        Record::Setting(Setting::Level(level)) => {
+            greystroke::Record::Setting(greystroke::Setting::Level(*level))
+        }
+        Record::Shape(shape) => greystroke::Record::Shape(library_shape(shape)),
+    }
+}
+
+fn reference_record(record: greystroke::Record) -> Record {
+    match record {
+        greystroke::Record::End => Record::End,
+        greystroke::Record::Setting(greystroke::Setting::Clip(clip)) => {
+            let greystroke::Clip { x0, y0, x1, y1 } = clip;
+            Record::Setting(Setting::Clip(Clip { x0, y0, x1, y1 }))
+        }
+        greystroke::Record::Setting(greystroke::Setting::Level(level)) => {
+            Record::Setting(Setting::Level(level))
+        }
+        greystroke::Record::Shape(shape) => Record::Shape(reference_shape(shape)),
+    }
+}
+
+fn reference_shape(shape: greystroke::Shape) -> Shape {
+    match shape {
+        greystroke::Shape::Line(line) => Shape::Line(Line {
+            exact: line.exact,
+            x0: line.x0,
+            y0: line.y0,
+            x1: line.x1,
+            y1: line.y1,
+        }),
+        greystroke::Shape::Disc(disc) => Shape::Disc(Disc {
+            x: disc.x,
+            y: disc.y,
+            radius: disc.radius,
+        }),
+        greystroke::Shape::Ring(ring) => Shape::Ring(Ring {
+            x: ring.x,
+            y: ring.y,
+            radius: ring.radius,
+            width: ring.width,
         }),
     }
 }

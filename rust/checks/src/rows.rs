@@ -18,6 +18,7 @@ pub struct Writing {
 }
 
 /// A page and the settings for one shape on it.
+#[derive(Clone, Debug)]
 pub struct ShapeCall {
     pub page: Vec<u8>,
     pub width: u16,

@@ -8,7 +8,7 @@ const OUTSIDE: [i16; 4] = [i16::MIN, -4097, 4096, i16::MAX];
 const RADII: [u16; 9] = [0, 1, 2, 3, 5, 254, 255, 256, u16::MAX];
 
 /// A number that may have left 16 bits, brought back into them.
-fn clamped(value: i64) -> i16 {
+pub(crate) fn clamped(value: i64) -> i16 {
     value.clamp(i16::MIN.into(), i16::MAX.into()) as i16
 }
 
@@ -66,7 +66,7 @@ fn diagonal(random: &mut Random) -> (i64, i64) {
 }
 
 /// A line from one limit of the coordinates to the other, along x or y.
-fn longest_line(random: &mut Random) -> Line {
+pub(crate) fn longest_line(random: &mut Random) -> Line {
     let (low, high) = random.pick(&[(-4096, 4095), (4095, -4096)]);
     let (a, b) = (coordinate(random), coordinate(random));
     let (x0, y0, x1, y1) = if random.flip() {
@@ -118,7 +118,7 @@ pub fn ring(random: &mut Random) -> Ring {
 }
 
 /// Moves one coordinate of the shape out of range.
-fn push_outside(random: &mut Random, shape: &mut Shape) {
+pub(crate) fn push_outside(random: &mut Random, shape: &mut Shape) {
     let coordinates: Vec<&mut i16> = match shape {
         Shape::Line(line) => vec![&mut line.x0, &mut line.y0, &mut line.x1, &mut line.y1],
         Shape::Disc(disc) => vec![&mut disc.x, &mut disc.y],
@@ -164,7 +164,7 @@ fn on_line(random: &mut Random, line: &Line) -> (i64, i64) {
 }
 
 /// A point on the circle, or for one in four inside it.
-fn on_circle(random: &mut Random, x: i16, y: i16, radius: u16) -> (i64, i64) {
+pub(crate) fn on_circle(random: &mut Random, x: i16, y: i16, radius: u16) -> (i64, i64) {
     let radius = i64::from(radius.min(300));
     let across = random.between(-radius, radius);
     let down = (radius * radius - across * across).isqrt();

@@ -2,13 +2,13 @@
 
 use checks::calls::answer;
 use checks::cases::rows;
+use checks::classes::{direction, directions, kind, signed_spans, Tally};
 use checks::library;
 use checks::random::Random;
 use checks::strokes::shape_and_pixel;
 use reference::coverage::{query, Fraction};
 use reference::refusal::Refusal;
 use reference::shape::{Line, Shape};
-use std::collections::BTreeMap;
 
 const QUERIES: u32 = 400_000;
 /// Every class of input has to come up at least this often.
@@ -32,20 +32,7 @@ fn wanted() -> Vec<String> {
     for kind in ["exact", "approximate"] {
         let classes = ["l = 1", "two rows", "three rows", "t = 0", "longest span"];
         wanted.extend(classes.map(|class| format!("{kind} {class}")));
-        for x in [-1, 0, 1] {
-            for y in [-1, 0, 1].into_iter().filter(|y| (x, *y) != (0, 0)) {
-                let spreads = if x * y == 0 {
-                    &["s = 0"][..]
-                } else {
-                    &["s = l", "flat", "steep"]
-                };
-                wanted.extend(
-                    spreads
-                        .iter()
-                        .map(|s| format!("{kind} {s} towards {x} {y}")),
-                );
-            }
-        }
+        wanted.extend(directions().iter().map(|way| format!("{kind} {way}")));
     }
     wanted
 }
@@ -66,15 +53,6 @@ fn classes(shape: &Shape, x: i16, y: i16, answer: &Answer) -> Vec<String> {
             let named = classes.into_iter().map(|class| format!("{kind} {class}"));
             named.collect()
         }
-    }
-}
-
-fn kind(shape: &Shape) -> &'static str {
-    match shape {
-        Shape::Line(line) if line.exact => "exact",
-        Shape::Line(_) => "approximate",
-        Shape::Disc(_) => "disc",
-        Shape::Ring(_) => "ring",
     }
 }
 
@@ -116,16 +94,9 @@ fn circle_classes(shape: &Shape) -> Option<String> {
 }
 
 fn line_classes(line: &Line, x: i16, y: i16) -> Vec<String> {
-    let dx = i64::from(line.x1) - i64::from(line.x0);
-    let dy = i64::from(line.y1) - i64::from(line.y0);
+    let (dx, dy) = signed_spans(line);
     let (l, s) = (dx.abs().max(dy.abs()), dx.abs().min(dy.abs()));
-    let spread = match s {
-        0 => "s = 0",
-        _ if s == l => "s = l",
-        _ if dy.abs() > dx.abs() => "steep",
-        _ => "flat",
-    };
-    let mut classes = vec![format!("{spread} towards {} {}", dx.signum(), dy.signum())];
+    let mut classes = vec![direction(line)];
     if l == 1 {
         classes.push("l = 1".to_string());
     }
@@ -151,20 +122,15 @@ fn line_classes(line: &Line, x: i16, y: i16) -> Vec<String> {
 #[test]
 fn random_queries_agree() {
     let mut random = Random::new(1);
-    let mut met: BTreeMap<String, u32> = BTreeMap::new();
+    let mut tally = Tally::default();
     for _ in 0..QUERIES {
         let (shape, x, y) = shape_and_pixel(&mut random);
         let expected = query(&shape, x, y);
         let found = library::coverage(&shape, x, y);
         assert_eq!(found, expected, "{shape:?} at {x} {y}");
-        for class in classes(&shape, x, y, &expected) {
-            *met.entry(class).or_default() += 1;
-        }
+        tally.meet(classes(&shape, x, y, &expected));
     }
-    for class in wanted() {
-        let count = met.get(&class).copied().unwrap_or(0);
-        assert!(count >= LEAST, "only {count} queries of class `{class}`");
-    }
+    tally.require(wanted(), LEAST);
 }
 
 #[test]

@@ -1,12 +1,12 @@
 //! The reference against every stored table and list.
 
 use checks::cases::{list_cases, rows, TABLES};
-use checks::notation::Writable;
-use checks::rows::{self as answers, ShapeCall, Writing};
+use checks::reference_writer::write;
+use checks::rows::{self as answers, ShapeCall};
 use reference::exact::{bound, byte_after, exact_blend, touches_at, within};
 use reference::list::{check, draw_list, Accepted};
 use reference::refusal::Refusal;
-use reference::{coverage, page, print, reader, writer};
+use reference::{coverage, page, print, reader};
 
 fn draw(call: &mut ShapeCall) -> Result<u64, Refusal> {
     page::draw_shape(
@@ -17,22 +17,6 @@ fn draw(call: &mut ShapeCall) -> Result<u64, Refusal> {
         call.level,
         &call.shape,
     )
-}
-
-fn write(writing: &mut Writing, what: &Writable) -> Result<(), Refusal> {
-    let mut writer = writer::Writer {
-        list: &mut writing.list,
-        place: writing.place,
-        width: writing.width,
-        height: writing.height,
-    };
-    let outcome = match what {
-        Writable::Header(header) => writer.write_header(header),
-        Writable::Record(record) => writer.write_record(record),
-    };
-    let (place, width, height) = (writer.place, writer.width, writer.height);
-    (writing.place, writing.width, writing.height) = (place, width, height);
-    outcome
 }
 
 fn answer(table: &str, call: &str) -> String {

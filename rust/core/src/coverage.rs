@@ -1,7 +1,7 @@
 //! The coverage query.
 
 use crate::boundary::{
-    greystroke_disc_coverage, greystroke_line_coverage, greystroke_ring_coverage, Answer,
+    greystroke_disc_coverage, greystroke_line_coverage, greystroke_ring_coverage, CoverageAnswer,
 };
 use crate::{Disc, Line, Refusal, Ring, Shape};
 
@@ -42,7 +42,7 @@ pub fn coverage(shape: Shape, x: i16, y: i16) -> Result<Fraction, Refusal> {
     }
 }
 
-fn line_answer(line: Line, x: i16, y: i16) -> Answer {
+fn line_answer(line: Line, x: i16, y: i16) -> CoverageAnswer {
     let Line {
         exact,
         x0,
@@ -54,12 +54,12 @@ fn line_answer(line: Line, x: i16, y: i16) -> Answer {
     unsafe { greystroke_line_coverage(exact, x0, y0, x1, y1, x, y) }
 }
 
-fn disc_answer(disc: Disc, x: i16, y: i16) -> Answer {
+fn disc_answer(disc: Disc, x: i16, y: i16) -> CoverageAnswer {
     // SAFETY: plain numbers by value to a function without precondition.
     unsafe { greystroke_disc_coverage(disc.x, disc.y, disc.radius, x, y) }
 }
 
-fn ring_answer(ring: Ring, x: i16, y: i16) -> Answer {
+fn ring_answer(ring: Ring, x: i16, y: i16) -> CoverageAnswer {
     // SAFETY: plain numbers by value to a function without precondition.
     unsafe { greystroke_ring_coverage(ring.x, ring.y, ring.radius, ring.width, x, y) }
 }

@@ -1,22 +1,33 @@
-//! Coverage of lines, discs and rings on a grey page, worked out by the proved library.
+//! Lines, discs and rings on a grey page, drawn and measured by the proved library.
 //!
 //! A shape is given in lattice corners from −4096 to 4095; pixel (x, y) is the square between
-//! the corners (x, y) and (x + 1, y + 1). The answer is the share of that square which the shape
-//! covers, as a fraction that is not reduced.
+//! the corners (x, y) and (x + 1, y + 1). [`draw_shape`] blends a shape into a lent page, one byte
+//! a pixel. [`coverage`] tells the share of one pixel that a shape covers, as a fraction that is
+//! not reduced. A drawing list holds many shapes as bytes: [`Writer`] makes one, [`read_record`]
+//! reads it record by record, and [`check_list`] tries it whole.
 //!
 //! ```
-//! use greystroke::{coverage, Fraction, Line, Refusal, Shape};
+//! use greystroke::{coverage, draw_shape, Clip, Fraction, Line, Refusal, Shape, Size};
 //!
-//! let line = Line { exact: true, x0: 0, y0: 0, x1: 2, y1: 1 };
-//! assert_eq!(coverage(Shape::Line(line), 0, 0), Ok(Fraction { n: 12, d: 16 }));
-//! assert_eq!(coverage(Shape::Line(line), 4096, 0), Err(Refusal::Coordinate));
+//! let line = Shape::Line(Line { exact: true, x0: 0, y0: 0, x1: 2, y1: 1 });
+//! assert_eq!(coverage(line, 0, 0), Ok(Fraction { n: 12, d: 16 }));
+//! assert_eq!(coverage(line, 4096, 0), Err(Refusal::Coordinate));
+//!
+//! let size = Size { width: 2, height: 2 };
+//! let mut page = [0; 4];
+//! assert_eq!(draw_shape(&mut page, size, Clip::whole(size), 16, line), Ok(3));
+//! assert_eq!(page, [12, 12, 0, 4]);
 //! ```
 
 mod boundary;
 mod coverage;
+mod drawing;
+mod list;
 mod refusal;
 mod shape;
 
 pub use coverage::{coverage, Fraction};
+pub use drawing::{draw_shape, Clip, Size};
+pub use list::{check_list, read_record, Header, ListRefusal, Record, Setting, Writer};
 pub use refusal::Refusal;
 pub use shape::{Disc, Line, Ring, Shape};

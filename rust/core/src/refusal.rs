@@ -6,22 +6,52 @@ use std::fmt::{self, Display, Formatter};
 /// A refusal, with the number that document 01 gives it.
 #[derive(Clone, Copy, Debug, PartialEq, Eq)]
 pub enum Refusal {
+    /// A list does not begin with the letters INK.
+    WrongMark = 1,
+    /// A list is of another version.
+    WrongVersion = 2,
+    /// The width or height of a page is outside 1 to 1024.
+    PageSize = 3,
+    /// A record's first byte is no kind.
+    UnknownKind = 4,
+    /// A list ends inside its header or a record, or where a record should begin.
+    CutShort = 5,
+    /// Bytes follow the end record.
+    SurplusBytes = 6,
     /// A coordinate of the shape or the pixel is outside −4096 to 4095.
     Coordinate = 7,
+    /// A clip's corners are out of order or off the page.
+    Clip = 8,
     /// The two ends of a line are the same corner.
     EqualEnds = 9,
     /// A radius is 0 or above 255.
     Radius = 10,
     /// A ring's width is 0 or above its radius.
     RingWidth = 11,
+    /// A list has more than 65,536 bytes.
+    ListTooLong = 12,
+    /// The page has fewer bytes than pixels.
+    PageTooShort = 21,
+    /// The list being written has no room for what is to be written.
+    NoRoom = 22,
 }
 
 impl Refusal {
-    const ALL: [Refusal; 4] = [
+    const ALL: [Refusal; 14] = [
+        Refusal::WrongMark,
+        Refusal::WrongVersion,
+        Refusal::PageSize,
+        Refusal::UnknownKind,
+        Refusal::CutShort,
+        Refusal::SurplusBytes,
         Refusal::Coordinate,
+        Refusal::Clip,
         Refusal::EqualEnds,
         Refusal::Radius,
         Refusal::RingWidth,
+        Refusal::ListTooLong,
+        Refusal::PageTooShort,
+        Refusal::NoRoom,
     ];
 
     pub fn number(self) -> u64 {
@@ -38,10 +68,20 @@ impl Refusal {
 impl Display for Refusal {
     fn fmt(&self, formatter: &mut Formatter<'_>) -> fmt::Result {
         let reason = match self {
+            Refusal::WrongMark => "list without the letters INK",
+            Refusal::WrongVersion => "list of another version",
+            Refusal::PageSize => "page width or height outside 1 to 1024",
+            Refusal::UnknownKind => "unknown kind of record",
+            Refusal::CutShort => "list cut short",
+            Refusal::SurplusBytes => "bytes behind the end record",
             Refusal::Coordinate => "coordinate outside its range",
+            Refusal::Clip => "clip out of order or off the page",
             Refusal::EqualEnds => "line whose ends coincide",
             Refusal::Radius => "radius 0 or above 255",
             Refusal::RingWidth => "ring width 0 or above the radius",
+            Refusal::ListTooLong => "list longer than 65,536 bytes",
+            Refusal::PageTooShort => "page shorter than its width times its height",
+            Refusal::NoRoom => "no room in the list",
         };
         write!(formatter, "refused {}: {reason}", self.number())
     }

@@ -1,4 +1,4 @@
-//! The shapes that can be asked about.
+//! The shapes that can be asked about and drawn.
 
 /// A line one pixel thick between two corners.
 #[derive(Clone, Copy, Debug, PartialEq, Eq)]

@@ -2,8 +2,8 @@ use mathlib.Core.Path.{_∙_, ap}
 use mir.Facts.{toZ-ofZ}
 use Rattle.greystroke.specs.Answers.{drawn}
 use borrow.Author.Needs.{needs}
-use Rattle.greystroke.proofs.drawing.greystroke_draw_ring.Statement.{statement}
-use Rattle.greystroke.proofs.drawing.greystroke_draw_ring.Tie as tie
+use Rattle.greystroke.proofs.shape.greystroke_draw_ring.Statement.{statement}
+use Rattle.greystroke.proofs.shape.greystroke_draw_ring.Tie as tie
 
 clip-of-requires : tie.Need-clip-of-requires
 clip-of-requires c κs = search needs

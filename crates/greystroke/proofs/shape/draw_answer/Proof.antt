@@ -1,6 +1,6 @@
 use borrow.Author.Needs.{needs}
-use Rattle.greystroke.proofs.drawing.draw_answer.Statement.{statement}
-use Rattle.greystroke.proofs.drawing.draw_answer.Tie as tie
+use Rattle.greystroke.proofs.shape.draw_answer.Statement.{statement}
+use Rattle.greystroke.proofs.shape.draw_answer.Tie as tie
 
 enum-known-outcome : tie.Need-enum-known-outcome
 enum-known-outcome c = search needs

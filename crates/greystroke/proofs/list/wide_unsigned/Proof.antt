@@ -1,0 +1,15 @@
+use native.Mathlib.Omega.{arith}
+use mir.Syntax.{w32}
+use mir.Facts.{toZ-pos}
+use borrow.Author.Needs.{needs}
+use Rattle.greystroke.proofs.list.wide_unsigned.Statement.{statement}
+use Rattle.greystroke.proofs.list.wide_unsigned.Tie as tie
+
+cast-result : tie.Need-cast-result
+cast-result c = search needs
+
+returns : tie.Need-returns
+returns c = toZ-pos w32 {n = c .args .n} (omega arith)
+
+pub wide-unsigned-spec : {M : Type 1} → statement M
+wide-unsigned-spec = tie.close (tie.spec cast-result returns)

@@ -1,0 +1,8 @@
+-- A whole list on a lent page, in the form that C takes.
+use Rattle.drawing.specs.declared.Answer.{Answer}
+use Rattle.drawing.specs.declared.Answer.the-variants.{Drawn, Refused}
+use Rattle.greystroke.specs.declared.whole.ListAnswer.{ListAnswer}
+
+unfoldable pub listed : Answer → ListAnswer
+listed (Drawn w h touched) = record { refusal = 0; place = 0; w = w; h = h; touched = touched }
+listed (Refused number place) = record { refusal = number; place = place; w = 0; h = 0; touched = 0 }

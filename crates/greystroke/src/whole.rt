@@ -1,0 +1,50 @@
+// A whole list on a lent page.
+use drawing::Answer;
+ghost use mathlib.Core.Path.{_≡_};
+ghost use lib.ListN.{length};
+ghost use Rattle.lists.specs.Format.{headerAt};
+ghost use Rattle.lists.specs.List.{recordsOf};
+ghost use Rattle.drawing.specs.Claim.{answerOf, pageOf, Bounded};
+ghost use Rattle.greystroke.specs.Whole.{listed};
+
+// W, H and how many pixels were touched where refusal is 0; else the place of the refusal.
+#[repr(C)]
+pub struct ListAnswer {
+    pub refusal: u64,
+    pub place: usize,
+    pub w: u64,
+    pub h: u64,
+    pub touched: u64,
+}
+
+// The library's answer in the form that C takes.
+fn list_answer(answer: Answer) -> ListAnswer
+    ensures { λ r. ⌜ r ≡ listed answer ⌝ }
+{
+    match answer {
+        Answer::Drawn { w, h, touched } => ListAnswer {
+            refusal: 0,
+            place: 0,
+            w: w as u64,
+            h: h as u64,
+            touched,
+        },
+        Answer::Refused { number, place } => ListAnswer {
+            refusal: number as u64,
+            place,
+            w: 0,
+            h: 0,
+            touched: 0,
+        },
+    }
+}
+
+// Draws a list.
+#[no_mangle]
+pub extern "C" fn greystroke_draw_list(page: &mut [u8], list: &[u8]) -> ListAnswer
+    ensures { λ r. ⌜ r ≡ listed (answerOf (headerAt (now (list .entry))) (recordsOf (now (list .entry)) (length (now (page .entry))))) ⌝ }
+    ensures { λ r. ⌜ now (page .exit) ≡ pageOf (headerAt (now (list .entry))) (recordsOf (now (list .entry)) (length (now (page .entry)))) (now (page .entry)) ⌝ }
+    ensures { λ r. ⌜ Bounded (headerAt (now (list .entry))) (recordsOf (now (list .entry)) (length (now (page .entry)))) (now (page .exit)) ⌝ }
+{
+    list_answer(drawing::draw_list(page, list))
+}

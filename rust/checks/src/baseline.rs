@@ -1,0 +1,331 @@
+//! The drawing rules as one would first write them in Rust: what the benchmark measures against.
+//!
+//! A line takes the closed form of each column, with a division for q and r, a clip test for each
+//! pixel and a division for each blend. A circle works out its heights by integer square roots and
+//! draws each row of its box, the inside filled.
+
+use greystroke::{Clip, Disc, Line, Refusal, Ring, Shape, Size};
+
+/// What [`greystroke::draw_shape`] does.
+pub fn draw_shape(
+    page: &mut [u8],
+    size: Size,
+    clip: Clip,
+    level: u8,
+    shape: Shape,
+) -> Result<u64, Refusal> {
+    if let Some(refusal) = first_refusal(page.len(), size, clip, shape) {
+        return Err(refusal);
+    }
+    let mut canvas = Canvas {
+        page,
+        width: size.width.into(),
+        left: clip.x0.into(),
+        top: clip.y0.into(),
+        right: clip.x1.into(),
+        bottom: clip.y1.into(),
+        level,
+    };
+    Ok(match shape {
+        Shape::Line(line) => draw_line(&mut canvas, line),
+        Shape::Disc(Disc { x, y, radius }) => draw_ring(&mut canvas, x, y, radius, 0),
+        Shape::Ring(Ring {
+            x,
+            y,
+            radius,
+            width,
+        }) => draw_ring(&mut canvas, x, y, radius, radius - width),
+    })
+}
+
+fn first_refusal(length: usize, size: Size, clip: Clip, shape: Shape) -> Option<Refusal> {
+    let Size { width, height } = size;
+    let lawful_side = |side| (1..=1024).contains(&side);
+    if !lawful_side(width) || !lawful_side(height) {
+        Some(Refusal::PageSize)
+    } else if length < usize::from(width) * usize::from(height) {
+        Some(Refusal::PageTooShort)
+    } else if clip.x0 > clip.x1 || clip.x1 > width || clip.y0 > clip.y1 || clip.y1 > height {
+        Some(Refusal::Clip)
+    } else {
+        shape_refusal(shape)
+    }
+}
+
+fn shape_refusal(shape: Shape) -> Option<Refusal> {
+    let outside = |corners: &[i16]| corners.iter().any(|c| !(-4096..=4095).contains(c));
+    let (far, form) = match shape {
+        Shape::Line(l) => {
+            let equal = (l.x0, l.y0) == (l.x1, l.y1);
+            let form = equal.then_some(Refusal::EqualEnds);
+            (outside(&[l.x0, l.y0, l.x1, l.y1]), form)
+        }
+        Shape::Disc(d) => (outside(&[d.x, d.y]), radius_refusal(d.radius)),
+        Shape::Ring(r) => {
+            let lawful = (1..=r.radius).contains(&r.width);
+            let width = (!lawful).then_some(Refusal::RingWidth);
+            (outside(&[r.x, r.y]), radius_refusal(r.radius).or(width))
+        }
+    };
+    if far {
+        Some(Refusal::Coordinate)
+    } else {
+        form
+    }
+}
+
+fn radius_refusal(radius: u16) -> Option<Refusal> {
+    (!(1..=255).contains(&radius)).then_some(Refusal::Radius)
+}
+
+/// A page with the clip and the level in force.
+struct Canvas<'a> {
+    page: &'a mut [u8],
+    width: i64,
+    left: i64,
+    top: i64,
+    right: i64,
+    bottom: i64,
+    level: u8,
+}
+
+impl Canvas<'_> {
+    /// Blends one pixel, if the clip keeps it and something covers it; says how many were touched.
+    fn touch(&mut self, x: i64, y: i64, n: u64, d: u64) -> u64 {
+        let kept = self.left <= x && x < self.right && self.top <= y && y < self.bottom;
+        if !kept || n == 0 {
+            return 0;
+        }
+        let byte = &mut self.page[(y * self.width + x) as usize];
+        *byte = blend(*byte, self.level, n, d);
+        1
+    }
+
+    /// The bytes of a row from one column to another, both brought into the clip.
+    fn stretch(&mut self, y: i64, from: i64, end: i64) -> (i64, &mut [u8]) {
+        let from = from.clamp(self.left, self.right);
+        let end = end.clamp(from, self.right);
+        let row = y * self.width;
+        let bytes = &mut self.page[(row + from) as usize..(row + end) as usize];
+        (from, bytes)
+    }
+}
+
+fn blend(old: u8, level: u8, n: u64, d: u64) -> u8 {
+    let sum = u64::from(old) * (d - n) + u64::from(level) * n;
+    ((2 * sum + d) / (2 * d)) as u8
+}
+
+/// A line in its own columns and rows: the longer span runs along the columns and rows rise.
+struct Frame {
+    l: i64,
+    s: i64,
+    exchanged: bool,
+    falls: bool,
+    first: (i64, i64),
+}
+
+impl Frame {
+    fn of(line: Line) -> Frame {
+        let (x0, y0) = (i64::from(line.x0), i64::from(line.y0));
+        let (x1, y1) = (i64::from(line.x1), i64::from(line.y1));
+        let exchanged = (y1 - y0).abs() > (x1 - x0).abs();
+        let turn = |x, y| if exchanged { (y, x) } else { (x, y) };
+        let (one, other) = (turn(x0, y0), turn(x1, y1));
+        let rises = one.0 < other.0;
+        let (first, last) = if rises { (one, other) } else { (other, one) };
+        Frame {
+            l: last.0 - first.0,
+            s: (last.1 - first.1).abs(),
+            exchanged,
+            falls: last.1 < first.1,
+            first,
+        }
+    }
+
+    /// The pixel in column i and row j.
+    fn pixel(&self, i: i64, j: i64) -> (i64, i64) {
+        let along = self.first.0 + i;
+        let across = self.first.1 + if self.falls { -j - 1 } else { j };
+        if self.exchanged {
+            (across, along)
+        } else {
+            (along, across)
+        }
+    }
+
+    fn denominator(&self, exact: bool) -> u64 {
+        let d = match exact {
+            true if self.s == 0 => 2,
+            true => 8 * self.l * self.s,
+            false => 4 * self.l,
+        };
+        d as u64
+    }
+
+    /// What rows q + 1, q and q − 1 of a column with rest r have.
+    fn rows(&self, exact: bool, r: i64) -> [u64; 3] {
+        let (l, s) = (self.l, self.s);
+        let t = (r + 2 * s - 2 * l).max(0);
+        let rows = if !exact {
+            [t, 2 * (r + s) - 2 * t, 4 * l + t - 2 * (r + s)]
+        } else if s == 0 {
+            [0, 1, 1]
+        } else {
+            let rise = 4 * s * (r + s);
+            [t * t, rise - 2 * t * t, 8 * l * s + t * t - rise]
+        };
+        rows.map(|n| n as u64)
+    }
+}
+
+fn draw_line(canvas: &mut Canvas, line: Line) -> u64 {
+    let frame = Frame::of(line);
+    let d = frame.denominator(line.exact);
+    let (from, end) = if frame.exchanged {
+        (canvas.top, canvas.bottom)
+    } else {
+        (canvas.left, canvas.right)
+    };
+    let mut touched = 0;
+    for i in (from - frame.first.0).max(0)..(end - frame.first.0).min(frame.l) {
+        let height = (frame.l + 2 * frame.s * i) as u64;
+        let whole = 2 * frame.l as u64;
+        let (q, r) = ((height / whole) as i64, (height % whole) as i64);
+        for (j, n) in [q + 1, q, q - 1].into_iter().zip(frame.rows(line.exact, r)) {
+            let (x, y) = frame.pixel(i, j);
+            touched += canvas.touch(x, y, n, d);
+        }
+    }
+    touched
+}
+
+/// The heights of one circle, 256 times as high.
+struct Circle {
+    heights: [u32; 257],
+}
+
+impl Circle {
+    fn of(radius: u16) -> Circle {
+        let mut heights = [0; 257];
+        let radius = u64::from(radius);
+        for k in 0..radius {
+            let root = ((radius * radius - k * k) << 18).isqrt();
+            heights[k as usize] = root.div_ceil(2) as u32;
+        }
+        Circle { heights }
+    }
+
+    /// The 512ths covered at the distances `across` and `down` from the centre.
+    fn cover(&self, across: usize, down: usize) -> u32 {
+        let (m, n) = (across.min(down), across.max(down) as u32);
+        let chord = |k: usize| self.heights[k].saturating_sub(256 * n).min(256);
+        chord(m) + chord(m + 1)
+    }
+
+    /// How many pixels of a row, from the centre outwards, are whole, and how many are touched.
+    fn widths(&self, down: usize) -> (i64, i64) {
+        let mut whole = (self.heights[down + 1] / 256) as usize;
+        while whole > 0 && self.cover(whole - 1, down) < 512 {
+            whole -= 1;
+        }
+        let mut touched = self.heights[down].div_ceil(256) as usize;
+        while self.cover(touched, down) > 0 {
+            touched += 1;
+        }
+        (whole as i64, touched as i64)
+    }
+}
+
+/// The outer and the inner circle of a ring, and its centre; a disc has an inner radius of 0.
+struct Circles {
+    outer: Circle,
+    inner: Circle,
+    hole: i64,
+    x: i64,
+    y: i64,
+}
+
+impl Circles {
+    /// The 512ths covered between the two circles. A row past the hole needs no heights of it.
+    fn cover(&self, across: usize, down: usize) -> u32 {
+        let outer = self.outer.cover(across, down);
+        if self.hole <= down as i64 {
+            outer
+        } else {
+            outer - self.inner.cover(across, down)
+        }
+    }
+}
+
+/// The distance of a pixel from the centre along one axis.
+fn apart(centre: i64, c: i64) -> usize {
+    let distance = if c < centre {
+        centre - c - 1
+    } else {
+        c - centre
+    };
+    distance as usize
+}
+
+fn draw_ring(canvas: &mut Canvas, x: i16, y: i16, radius: u16, hole: u16) -> u64 {
+    let (x, y) = (i64::from(x), i64::from(y));
+    let reach = i64::from(radius);
+    let top = (y - reach).max(canvas.top);
+    let bottom = (y + reach).min(canvas.bottom);
+    if top >= bottom || x + reach <= canvas.left || canvas.right <= x - reach {
+        return 0;
+    }
+    let circles = Circles {
+        outer: Circle::of(radius),
+        inner: Circle::of(hole),
+        hole: hole.into(),
+        x,
+        y,
+    };
+    (top..bottom)
+        .map(|row| draw_row(canvas, &circles, row))
+        .sum()
+}
+
+fn draw_row(canvas: &mut Canvas, circles: &Circles, y: i64) -> u64 {
+    let x = circles.x;
+    let down = apart(circles.y, y);
+    let (whole, outer) = circles.outer.widths(down);
+    if circles.hole <= down as i64 {
+        return blend_edge(canvas, circles, y, x - outer, x - whole)
+            + fill(canvas, y, x - whole, x + whole)
+            + blend_edge(canvas, circles, y, x + whole, x + outer);
+    }
+    let (hole, inner) = circles.inner.widths(down);
+    let inner = inner.min(outer);
+    let whole = whole.max(inner);
+    blend_edge(canvas, circles, y, x - outer, x - whole)
+        + fill(canvas, y, x - whole, x - inner)
+        + blend_edge(canvas, circles, y, x - inner, x - hole)
+        + blend_edge(canvas, circles, y, x + hole, x + inner)
+        + fill(canvas, y, x + inner, x + whole)
+        + blend_edge(canvas, circles, y, x + whole, x + outer)
+}
+
+fn fill(canvas: &mut Canvas, y: i64, from: i64, end: i64) -> u64 {
+    let level = canvas.level;
+    let (_, bytes) = canvas.stretch(y, from, end);
+    bytes.fill(level);
+    bytes.len() as u64
+}
+
+fn blend_edge(canvas: &mut Canvas, circles: &Circles, y: i64, from: i64, end: i64) -> u64 {
+    let level = canvas.level;
+    let down = apart(circles.y, y);
+    let (from, bytes) = canvas.stretch(y, from, end);
+    let mut touched = 0;
+    for (x, byte) in (from..).zip(bytes) {
+        let n = circles.cover(apart(circles.x, x), down);
+        if n > 0 {
+            *byte = blend(*byte, level, n.into(), 512);
+            touched += 1;
+        }
+    }
+    touched
+}

@@ -1,0 +1,317 @@
+//! Prints the library's time as a share of the time of a straightforward Rust version of the same
+//! rules (`baseline`), and how the library's time grows with the shape and with the page.
+//!
+//! Lines: `ratio NAME VALUE` and `growth NAME SIZE NANOSECONDS`, each kind after a line with `#`
+//! that names the inputs.
+
+use checks::baseline;
+use checks::random::Random;
+use greystroke::{draw_shape, Clip, Disc, Line, Refusal, Ring, Shape, Size};
+use std::hint::black_box;
+use std::time::{Duration, Instant};
+
+/// How long each ratio and each series of growth is measured.
+const RATIO_TIME: Duration = Duration::from_secs(5);
+const GROWTH_TIME: Duration = Duration::from_secs(2);
+/// The side of the page unless a line says otherwise.
+const SIDE: u16 = 1024;
+const SHAPES: usize = 256;
+/// How often one shape is drawn between two looks at the clock.
+const REPEATS: usize = 32;
+
+type Draw = fn(&mut [u8], Size, Clip, u8, Shape) -> Result<u64, Refusal>;
+
+struct Job {
+    level: u8,
+    shape: Shape,
+}
+
+/// A page, and the function that draws on it.
+struct Painter {
+    draw: Draw,
+    page: Vec<u8>,
+    size: Size,
+}
+
+impl Painter {
+    /// A square page of all levels.
+    fn new(draw: Draw, side: u16) -> Painter {
+        let length = usize::from(side) * usize::from(side);
+        Painter {
+            draw,
+            page: (0..length).map(|k| (37 * k + 11) as u8).collect(),
+            size: Size {
+                width: side,
+                height: side,
+            },
+        }
+    }
+
+    /// Draws every job and hands back the pixels touched.
+    fn run(&mut self, jobs: &[Job]) -> u64 {
+        let clip = Clip::whole(self.size);
+        let draw = |job: &Job| (self.draw)(&mut self.page, self.size, clip, job.level, job.shape);
+        let counts = jobs.iter().map(draw);
+        counts.map(|count| count.expect("a lawful shape")).sum()
+    }
+
+    fn time(&mut self, jobs: &[Job]) -> Duration {
+        let start = Instant::now();
+        black_box(self.run(black_box(jobs)));
+        start.elapsed()
+    }
+}
+
+/// The best times of the library and of the baseline, in turns on the same jobs.
+fn best_of_both(jobs: &[Job]) -> (Duration, Duration) {
+    let mut library = Painter::new(draw_shape, SIDE);
+    let mut plain = Painter::new(baseline::draw_shape, SIDE);
+    assert_eq!(library.run(jobs), plain.run(jobs), "the counts differ");
+    assert_eq!(library.page, plain.page, "the pages differ");
+    let mut best = (Duration::MAX, Duration::MAX);
+    let start = Instant::now();
+    while start.elapsed() < RATIO_TIME {
+        best.0 = best.0.min(library.time(jobs));
+        best.1 = best.1.min(plain.time(jobs));
+    }
+    best
+}
+
+fn nanoseconds(time: Duration, shapes: usize) -> f64 {
+    time.as_secs_f64() * 1e9 / shapes as f64
+}
+
+fn print_ratio(name: &str, inputs: &str, shape: impl Fn(&mut Random) -> Shape) {
+    let mut random = Random::new(7);
+    let jobs: Vec<Job> = (0..SHAPES)
+        .map(|_| Job {
+            level: random.between(0, 255) as u8,
+            shape: shape(&mut random),
+        })
+        .collect();
+    let (library, plain) = best_of_both(&jobs);
+    println!("# {name}: {SHAPES} {inputs}, page {SIDE} by {SIDE}");
+    println!(
+        "# {name}: {:.0} ns a shape, baseline {:.0} ns",
+        nanoseconds(library, SHAPES),
+        nanoseconds(plain, SHAPES)
+    );
+    let ratio = library.as_secs_f64() / plain.as_secs_f64();
+    println!("ratio {name} {ratio:.2}");
+}
+
+/// A line with a longer span of `longer`, any direction, with both ends on the page.
+fn line_within(random: &mut Random, longer: i64) -> Shape {
+    let shorter = random.between(0, longer);
+    let spans = [(longer, shorter), (shorter, longer)];
+    let (across, down) = random.pick(&spans);
+    let (x0, x1) = ends(random, across, i64::from(SIDE));
+    let (y0, y1) = ends(random, down, i64::from(SIDE));
+    Shape::Line(Line {
+        exact: random.flip(),
+        x0,
+        y0,
+        x1,
+        y1,
+    })
+}
+
+/// Two numbers from 0 to `limit`, `span` apart, in either order.
+fn ends(random: &mut Random, span: i64, limit: i64) -> (i16, i16) {
+    let low = random.between(0, limit - span);
+    let (low, high) = (low as i16, (low + span) as i16);
+    random.pick(&[(low, high), (high, low)])
+}
+
+/// A line through a point of the page's middle, with both ends 2,000 to 3,300 away from it.
+fn far_line(random: &mut Random) -> Shape {
+    let slope = random.between(-1000, 1000);
+    let middle = [random.between(256, 768), random.between(256, 768)];
+    let reach = [-random.between(2000, 3300), random.between(2000, 3300)];
+    let end = |reach: i64| {
+        let (along, across) = (middle[0] + reach, middle[1] + reach * slope / 1000);
+        (along as i16, across as i16)
+    };
+    let (first, last) = (end(reach[0]), end(reach[1]));
+    let (first, last) = random.pick(&[(first, last), (last, first)]);
+    let exact = random.flip();
+    let steep = random.flip();
+    let turn = |(along, across)| {
+        if steep {
+            (across, along)
+        } else {
+            (along, across)
+        }
+    };
+    let ((x0, y0), (x1, y1)) = (turn(first), turn(last));
+    Shape::Line(Line {
+        exact,
+        x0,
+        y0,
+        x1,
+        y1,
+    })
+}
+
+fn disc(random: &mut Random) -> Disc {
+    Disc {
+        x: random.between(0, i64::from(SIDE)) as i16,
+        y: random.between(0, i64::from(SIDE)) as i16,
+        radius: random.between(1, 255) as u16,
+    }
+}
+
+fn ring(random: &mut Random) -> Shape {
+    let Disc { x, y, radius } = disc(random);
+    Shape::Ring(Ring {
+        x,
+        y,
+        radius,
+        width: random.between(1, i64::from(radius)) as u16,
+    })
+}
+
+fn print_ratios() {
+    print_ratio(
+        "long_lines",
+        "lines of 500 to 1,000 columns, all directions, half exact, ends on the page",
+        |random| {
+            let longer = random.between(500, 1000);
+            line_within(random, longer)
+        },
+    );
+    print_ratio(
+        "short_lines",
+        "lines of 16 columns, all directions, half exact, ends on the page",
+        |random| line_within(random, 16),
+    );
+    print_ratio(
+        "far_lines",
+        "lines with ends 2,000 to 3,300 from the page's middle, all directions, half exact",
+        far_line,
+    );
+    print_ratio(
+        "discs",
+        "discs of radius 1 to 255, centre on the page",
+        |random| Shape::Disc(disc(random)),
+    );
+    print_ratio(
+        "rings",
+        "rings of radius 1 to 255, width 1 to the radius, centre on the page",
+        ring,
+    );
+}
+
+/// One shape, drawn again and again on a square page.
+struct Sample {
+    size: u16,
+    painter: Painter,
+    jobs: Vec<Job>,
+    best: Duration,
+}
+
+impl Sample {
+    fn new(size: u16, side: u16, shape: Shape) -> Sample {
+        let job = |k| Job {
+            level: (85 * k) as u8,
+            shape,
+        };
+        Sample {
+            size,
+            painter: Painter::new(draw_shape, side),
+            jobs: (0..REPEATS).map(job).collect(),
+            best: Duration::MAX,
+        }
+    }
+}
+
+/// The best times of the library, in turns, so that a disturbance meets all sizes alike.
+fn print_growth(name: &str, mut samples: Vec<Sample>) {
+    let start = Instant::now();
+    while start.elapsed() < GROWTH_TIME {
+        for sample in &mut samples {
+            sample.best = sample.best.min(sample.painter.time(&sample.jobs));
+        }
+    }
+    for Sample { size, best, .. } in samples {
+        println!("growth {name} {size} {:.0}", nanoseconds(best, REPEATS));
+    }
+}
+
+/// An exact line about the middle of the page, of slope one third.
+fn middle_line(length: u16) -> Shape {
+    let (middle, length) = ((SIDE / 2) as i16, length as i16);
+    Shape::Line(Line {
+        exact: true,
+        x0: middle - length / 2,
+        y0: middle - length / 6,
+        x1: middle + length / 2,
+        y1: middle + length / 6,
+    })
+}
+
+fn middle_disc(radius: u16) -> Shape {
+    let (x, y) = ((SIDE / 2) as i16, (SIDE / 2) as i16);
+    Shape::Disc(Disc { x, y, radius })
+}
+
+fn middle_ring(radius: u16) -> Shape {
+    Shape::Ring(Ring {
+        x: (SIDE / 2) as i16,
+        y: (SIDE / 2) as i16,
+        radius,
+        width: radius / 8 + 1,
+    })
+}
+
+fn print_shape_growth() {
+    let on_page = |sizes: &[u16], shape: fn(u16) -> Shape| {
+        let sample = |&size: &u16| Sample::new(size, SIDE, shape(size));
+        sizes.iter().map(sample).collect()
+    };
+    println!("# shapes in the middle of a page {SIDE} by {SIDE}, nanoseconds a shape");
+    println!("# line_length: an exact line of slope 1/3; the page cuts it to 1,024 columns");
+    let lengths = [16, 64, 256, 1024, 2048, 4096];
+    print_growth("line_length", on_page(&lengths, middle_line));
+    println!("# disc_radius; ring_radius, of width 1 + radius / 8");
+    let radii = [1, 4, 16, 64, 128, 255];
+    print_growth("disc_radius", on_page(&radii, middle_disc));
+    print_growth("ring_radius", on_page(&radii, middle_ring));
+}
+
+fn print_page_growth() {
+    println!("# the same shape on square pages of 64 to 1,024, nanoseconds a shape");
+    println!("# page_side_line: an exact line (8,8)-(56,24)");
+    println!("# page_side_disc, page_side_ring: about (32,32), radius 24, width 6");
+    let line = Line {
+        exact: true,
+        x0: 8,
+        y0: 8,
+        x1: 56,
+        y1: 24,
+    };
+    let (x, y, radius, width) = (32, 32, 24, 6);
+    let disc = Disc { x, y, radius };
+    let ring = Ring {
+        x,
+        y,
+        radius,
+        width,
+    };
+    let shapes = [
+        ("page_side_line", Shape::Line(line)),
+        ("page_side_disc", Shape::Disc(disc)),
+        ("page_side_ring", Shape::Ring(ring)),
+    ];
+    for (name, shape) in shapes {
+        let sides = [64, 128, 256, 512, 1024];
+        let samples = sides.map(|side| Sample::new(side, side, shape));
+        print_growth(name, samples.into());
+    }
+}
+
+fn main() {
+    print_ratios();
+    print_shape_growth();
+    print_page_growth();
+}

@@ -1,0 +1,69 @@
+//! Classes of inputs, and how often a run met each.
+
+use reference::shape::{Line, Shape};
+use std::collections::BTreeMap;
+
+/// Counts the inputs of each class, so that a test can show what its random inputs reached.
+#[derive(Default)]
+pub struct Tally {
+    met: BTreeMap<String, u32>,
+}
+
+impl Tally {
+    pub fn meet(&mut self, classes: Vec<String>) {
+        for class in classes {
+            *self.met.entry(class).or_default() += 1;
+        }
+    }
+
+    /// Panics unless each of the classes was met at least so often.
+    pub fn require(&self, wanted: Vec<String>, least: u32) {
+        for class in wanted {
+            let count = self.met.get(&class).copied().unwrap_or(0);
+            assert!(count >= least, "only {count} inputs of class `{class}`");
+        }
+    }
+}
+
+pub fn kind(shape: &Shape) -> &'static str {
+    match shape {
+        Shape::Line(line) if line.exact => "exact",
+        Shape::Line(_) => "approximate",
+        Shape::Disc(_) => "disc",
+        Shape::Ring(_) => "ring",
+    }
+}
+
+/// The spans of a line, with their signs.
+pub fn signed_spans(line: &Line) -> (i64, i64) {
+    let span = |from: i16, to: i16| i64::from(to) - i64::from(from);
+    (span(line.x0, line.x1), span(line.y0, line.y1))
+}
+
+/// How a line lies: its spread, and the signs of its spans.
+pub fn direction(line: &Line) -> String {
+    let (dx, dy) = signed_spans(line);
+    let spread = match dx.abs().min(dy.abs()) {
+        0 => "s = 0",
+        _ if dx.abs() == dy.abs() => "s = l",
+        _ if dy.abs() > dx.abs() => "steep",
+        _ => "flat",
+    };
+    format!("{spread} towards {} {}", dx.signum(), dy.signum())
+}
+
+/// Every direction that a lawful line can have.
+pub fn directions() -> Vec<String> {
+    let mut directions = Vec::new();
+    for x in [-1, 0, 1] {
+        for y in [-1, 0, 1].into_iter().filter(|y| (x, *y) != (0, 0)) {
+            let spreads = if x * y == 0 {
+                &["s = 0"][..]
+            } else {
+                &["s = l", "flat", "steep"]
+            };
+            directions.extend(spreads.iter().map(|s| format!("{s} towards {x} {y}")));
+        }
+    }
+    directions
+}

@@ -1,0 +1,113 @@
+//! Random headers, records and whole lists, and damage to a list.
+
+use crate::random::Random;
+use crate::strokes::{disc, line, push_outside, ring};
+use reference::format::{encode_header, encode_record, Header};
+use reference::shape::{Clip, Record, Setting, Shape};
+
+const UNLAWFUL_SIDES: [u16; 3] = [0, 1025, u16::MAX];
+
+/// A header; one in sixteen has a side out of range.
+pub fn header(random: &mut Random) -> Header {
+    let mut side = || match random.between(0, 31) {
+        0 => random.pick(&UNLAWFUL_SIDES),
+        1 => 1024,
+        2 => 1,
+        _ => random.between(1, 40) as u16,
+    };
+    let (width, height) = (side(), side());
+    Header {
+        width,
+        height,
+        background: random.bits() as u8,
+    }
+}
+
+/// Any record, with or without fault on a page of this size.
+pub fn record(random: &mut Random, width: u16, height: u16) -> Record {
+    let mut shape = match random.between(0, 9) {
+        0 => return Record::End,
+        1 => return Record::Setting(Setting::Level(random.bits() as u8)),
+        2 | 3 => return Record::Setting(Setting::Clip(clip(random, width, height))),
+        4..=6 => Shape::Line(line(random)),
+        7 => Shape::Disc(disc(random)),
+        _ => Shape::Ring(ring(random)),
+    };
+    if random.one_in(8) {
+        push_outside(random, &mut shape);
+    }
+    Record::Shape(shape)
+}
+
+fn clip(random: &mut Random, width: u16, height: u16) -> Clip {
+    let mut corner = |side: u16| match random.between(0, 7) {
+        0 => 0,
+        1 => side,
+        2 => side.saturating_add(1),
+        3 => u16::MAX,
+        _ => random.between(0, i64::from(side)) as u16,
+    };
+    let (one, other) = (corner(width), corner(width));
+    let (x0, x1) = (one.min(other), one.max(other));
+    let (y0, y1) = (corner(height), corner(height));
+    Clip { x0, y0, x1, y1 }
+}
+
+/// A setting or a shape without fault on a page of lawful size.
+pub fn lawful_record(random: &mut Random, width: u16, height: u16) -> Record {
+    loop {
+        let record = record(random, width, height);
+        if record != Record::End && record.first_fault(width, height).is_none() {
+            return record;
+        }
+    }
+}
+
+/// A record for a list: one in twenty may have a fault, or be an end record before the last.
+fn listed_record(random: &mut Random, width: u16, height: u16) -> Record {
+    if !random.one_in(20) {
+        return lawful_record(random, width, height);
+    }
+    loop {
+        let record = record(random, width, height);
+        if fits_its_bytes(&record) {
+            return record;
+        }
+    }
+}
+
+/// A list has one byte for a radius and for a width.
+fn fits_its_bytes(record: &Record) -> bool {
+    match record {
+        Record::Shape(Shape::Disc(disc)) => disc.radius < 256,
+        Record::Shape(Shape::Ring(ring)) => ring.radius < 256 && ring.width < 256,
+        _ => true,
+    }
+}
+
+/// A list of up to twelve records and an end record.
+pub fn list(random: &mut Random) -> Vec<u8> {
+    let header = header(random);
+    let mut list = encode_header(&header);
+    for _ in 0..random.between(0, 12) {
+        let record = listed_record(random, header.width.max(1), header.height.max(1));
+        list.extend(encode_record(&record));
+    }
+    list.push(0);
+    list
+}
+
+/// Cuts the list, lengthens it, or changes, takes out or puts in a byte.
+pub fn damage(random: &mut Random, list: &mut Vec<u8>) {
+    let place = random.between(0, list.len() as i64 - 1) as usize;
+    let any = random.bits() as u8;
+    let byte = random.pick(&[0, 1, 7, 16, 0xF0, 0xFF, any]);
+    match random.between(0, 6) {
+        0 => list.truncate(place),
+        1 => list.push(byte),
+        2 => list.insert(place, byte),
+        3 => drop(list.remove(place)),
+        4 => list[place] ^= 1 << random.between(0, 7),
+        _ => list[place] = byte,
+    }
+}

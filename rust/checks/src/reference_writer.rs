@@ -1,0 +1,22 @@
+//! The reference's writer on the state that the tables give.
+
+use crate::notation::Writable;
+use crate::rows::Writing;
+use reference::refusal::Refusal;
+use reference::writer::Writer;
+
+pub fn write(writing: &mut Writing, what: &Writable) -> Result<(), Refusal> {
+    let mut writer = Writer {
+        list: &mut writing.list,
+        place: writing.place,
+        width: writing.width,
+        height: writing.height,
+    };
+    let outcome = match what {
+        Writable::Header(header) => writer.write_header(header),
+        Writable::Record(record) => writer.write_record(record),
+    };
+    let (place, width, height) = (writer.place, writer.width, writer.height);
+    (writing.place, writing.width, writing.height) = (place, width, height);
+    outcome
+}

@@ -1,0 +1,360 @@
+//! One shape on a page: the library against the reference on random drawings, on the stored rows,
+//! and on the reference strokes of document 01 that concern drawing.
+
+use checks::calls::answer;
+use checks::cases::rows;
+use checks::classes::{direction, directions, kind, signed_spans, Tally};
+use checks::drawings::drawing;
+use checks::library;
+use checks::random::Random;
+use checks::rows::ShapeCall;
+use reference::coverage::exact_coverage;
+use reference::page::{draw_shape, page_length};
+use reference::refusal::Refusal;
+use reference::shape::{page_size_fault, Clip, Disc, Line, Ring, Shape};
+
+const DRAWS: u32 = 60_000;
+/// Every class of input has to come up at least this often.
+const LEAST: u32 = 30;
+
+type Answer = Result<u64, Refusal>;
+
+fn reference_draw(call: &mut ShapeCall) -> Answer {
+    draw_shape(
+        &mut call.page,
+        call.width,
+        call.height,
+        &call.clip,
+        call.level,
+        &call.shape,
+    )
+}
+
+/// Classes that a run must meet.
+fn wanted() -> Vec<String> {
+    let refusals = [3, 21, 8, 7, 9, 10, 11];
+    let mut wanted: Vec<String> = refusals.map(|n| format!("refused {n}")).into();
+    let pairs = [(3, 8), (3, 9), (21, 8), (21, 7), (8, 7), (8, 9), (8, 10)];
+    wanted.extend(pairs.map(|(first, next)| format!("refused {first} before {next}")));
+    let sides = ["W is 0", "W is 1025", "H is 0", "H is 1025"];
+    wanted.extend(sides.map(String::from));
+    wanted.extend(["refused 21: no byte", "refused 21: one byte short"].map(String::from));
+    wanted.extend(["empty clip", "empty clip at the last corner"].map(String::from));
+    for kind in ["exact", "approximate", "disc", "ring"] {
+        let drawn = [
+            "touches nothing",
+            "touches the clip's one pixel",
+            "under a whole clip",
+            "on a surplus page",
+            "on 1024 columns",
+            "on 1024 rows",
+            "at level 0",
+            "at level 255",
+            "cut at the left",
+            "cut at the right",
+            "cut at the top",
+            "cut at the bottom",
+            "leaves touched bytes",
+        ];
+        wanted.extend(drawn.map(|class| format!("{kind} {class}")));
+    }
+    for kind in ["exact", "approximate"] {
+        wanted.extend(directions().iter().map(|way| format!("{kind} {way}")));
+        let spans = ["l = 1", "longest span", "with both ends far off"];
+        wanted.extend(spans.map(|class| format!("{kind} {class}")));
+    }
+    wanted.extend(["radius 1", "radius 255", "whole pixels"].map(|what| format!("disc of {what}")));
+    wanted.extend(["width 1", "width the radius", "a hole"].map(|what| format!("ring of {what}")));
+    wanted
+}
+
+/// Classes of a drawing, by the call before and after and its answer.
+fn classes(before: &ShapeCall, after: &ShapeCall, answer: &Answer) -> Vec<String> {
+    let touched = match answer {
+        Err(refusal) => return refusal_classes(before, refusal),
+        Ok(touched) => *touched,
+    };
+    let Clip { x0, y0, x1, y1 } = before.clip;
+    let mut classes = Vec::new();
+    if x0 == x1 || y0 == y1 {
+        classes.push("empty clip".to_string());
+        if (x0, y0) == (before.width, before.height) {
+            classes.push("empty clip at the last corner".to_string());
+        }
+    }
+    let kind = kind(&before.shape);
+    if touched == 0 {
+        classes.push(format!("{kind} touches nothing"));
+        return classes;
+    }
+    let mut drawn = settings_classes(before);
+    drawn.extend(cut_classes(before));
+    drawn.extend(shape_classes(before));
+    let changed = before.page.iter().zip(&after.page).filter(|(u, v)| u != v);
+    if (changed.count() as u64) < touched {
+        drawn.push("leaves touched bytes".to_string());
+    }
+    classes.extend(drawn.iter().map(|class| format!("{kind} {class}")));
+    classes
+}
+
+/// The refusal, and the faults that it came before.
+fn refusal_classes(call: &ShapeCall, refusal: &Refusal) -> Vec<String> {
+    let (width, height) = (call.width, call.height);
+    let pixels = page_length(width, height);
+    let first = refusal.number;
+    let mut classes = vec![format!("refused {first}")];
+    let later = [
+        page_size_fault(width, height),
+        call.clip.first_fault(width, height),
+        call.shape.coordinate_fault(),
+        call.shape.form_fault(),
+    ];
+    let later = later.into_iter().flatten().map(|fault| fault.number());
+    classes.extend(later.map(|next| format!("refused {first} before {next}")));
+    match first {
+        3 => classes.extend([format!("W is {width}"), format!("H is {height}")]),
+        21 if call.page.is_empty() => classes.push("refused 21: no byte".to_string()),
+        21 if call.page.len() + 1 == pixels => {
+            classes.push("refused 21: one byte short".to_string());
+        }
+        _ => {}
+    }
+    classes
+}
+
+fn settings_classes(call: &ShapeCall) -> Vec<String> {
+    let Clip { x0, y0, x1, y1 } = call.clip;
+    let (width, height) = (call.width, call.height);
+    let mut classes = vec![format!("at level {}", call.level)];
+    if (x1 - x0, y1 - y0) == (1, 1) {
+        classes.push("touches the clip's one pixel".to_string());
+    }
+    if call.clip == Clip::whole(width, height) {
+        classes.push("under a whole clip".to_string());
+    }
+    if call.page.len() > page_length(width, height) {
+        classes.push("on a surplus page".to_string());
+    }
+    if width == 1024 {
+        classes.push("on 1024 columns".to_string());
+    }
+    if height == 1024 {
+        classes.push("on 1024 rows".to_string());
+    }
+    classes
+}
+
+/// The sides of the clip on which the shape covers both the pixel inside and the one outside.
+fn cut_classes(call: &ShapeCall) -> Vec<String> {
+    let Clip { x0, y0, x1, y1 } = call.clip;
+    let covers = |x: i32, y: i32| exact_coverage(&call.shape, x, y).n > 0;
+    let cut_in_column = |one: i32, other: i32| {
+        let mut rows = i32::from(y0)..i32::from(y1);
+        rows.any(|y| covers(one, y) && covers(other, y))
+    };
+    let cut_in_row = |one: i32, other: i32| {
+        let mut columns = i32::from(x0)..i32::from(x1);
+        columns.any(|x| covers(x, one) && covers(x, other))
+    };
+    let (x0, y0, x1, y1) = (i32::from(x0), i32::from(y0), i32::from(x1), i32::from(y1));
+    let cuts = [
+        ("left", cut_in_column(x0 - 1, x0)),
+        ("right", cut_in_column(x1 - 1, x1)),
+        ("top", cut_in_row(y0 - 1, y0)),
+        ("bottom", cut_in_row(y1 - 1, y1)),
+    ];
+    let met = cuts.into_iter().filter(|(_, met)| *met);
+    met.map(|(side, _)| format!("cut at the {side}")).collect()
+}
+
+fn shape_classes(call: &ShapeCall) -> Vec<String> {
+    match &call.shape {
+        Shape::Line(line) => line_classes(call, line),
+        Shape::Disc(disc) => {
+            let mut classes = vec![format!("of radius {}", disc.radius)];
+            if any_pixel(call, |n| n == 512) {
+                classes.push("of whole pixels".to_string());
+            }
+            classes
+        }
+        Shape::Ring(ring) => ring_classes(call, ring),
+    }
+}
+
+fn line_classes(call: &ShapeCall, line: &Line) -> Vec<String> {
+    let (dx, dy) = signed_spans(line);
+    let longer = dx.abs().max(dy.abs());
+    let mut classes = vec![direction(line)];
+    if longer == 1 {
+        classes.push("l = 1".to_string());
+    }
+    if longer == 8191 {
+        classes.push("longest span".to_string());
+    }
+    let far = |c: i16, side: u16| c < -100 || i32::from(c) > i32::from(side) + 100;
+    let ends = [(line.x0, line.y0), (line.x1, line.y1)];
+    if ends
+        .iter()
+        .all(|(x, y)| far(*x, call.width) || far(*y, call.height))
+    {
+        classes.push("with both ends far off".to_string());
+    }
+    classes
+}
+
+fn ring_classes(call: &ShapeCall, ring: &Ring) -> Vec<String> {
+    let mut classes = vec![format!("of width {}", ring.width)];
+    if ring.width == ring.radius {
+        classes.push("of width the radius".to_string());
+    }
+    let centre = |side: u16, c: i16| (1..i32::from(side)).contains(&c.into());
+    let on_page = centre(call.width, ring.x) && centre(call.height, ring.y);
+    if on_page && ring.radius - ring.width > 2 {
+        classes.push("of a hole".to_string());
+    }
+    classes
+}
+
+/// Whether a pixel of the clip has such a coverage.
+fn any_pixel(call: &ShapeCall, has: impl Fn(u64) -> bool) -> bool {
+    let Clip { x0, y0, x1, y1 } = call.clip;
+    let pixels = (y0..y1).flat_map(|y| (x0..x1).map(move |x| (x, y)));
+    let mut covers = pixels.map(|(x, y)| exact_coverage(&call.shape, x.into(), y.into()).n);
+    covers.any(has)
+}
+
+/// The call without its page, which may be long.
+fn describe(call: &ShapeCall) -> String {
+    let ShapeCall {
+        page,
+        width,
+        height,
+        clip,
+        level,
+        shape,
+    } = call;
+    let length = page.len();
+    format!("{shape:?} at level {level} under {clip:?} on {width} by {height}, {length} bytes")
+}
+
+#[test]
+fn random_draws_agree() {
+    let mut random = Random::new(2);
+    let mut tally = Tally::default();
+    for _ in 0..DRAWS {
+        let call = drawing(&mut random);
+        let (mut expected, mut found) = (call.clone(), call.clone());
+        let expected_answer = reference_draw(&mut expected);
+        let found_answer = library::draw_shape(&mut found);
+        assert_eq!(found_answer, expected_answer, "{}", describe(&call));
+        // Equal bytes past W·H too, and after a refusal equal to those before it.
+        assert!(found.page == expected.page, "{}", describe(&call));
+        if expected_answer.is_err() {
+            assert!(found.page == call.page, "{}", describe(&call));
+        }
+        tally.meet(classes(&call, &expected, &expected_answer));
+    }
+    tally.require(wanted(), LEAST);
+}
+
+#[test]
+fn stored_rows_agree() {
+    let rows = rows("draws");
+    for row in &rows {
+        let found = answer(&format!("draws {}", row.call));
+        assert_eq!(found, row.answer, "{}", row.call);
+    }
+    assert_eq!(rows.len(), 120);
+}
+
+/// The answer and the page after one shape on a page of one level, under a whole clip.
+fn drawn(side: u16, background: u8, level: u8, shape: Shape) -> (Answer, Vec<u8>) {
+    let mut call = ShapeCall {
+        page: vec![background; page_length(side, side)],
+        width: side,
+        height: side,
+        clip: Clip::whole(side, side),
+        level,
+        shape,
+    };
+    (library::draw_shape(&mut call), call.page)
+}
+
+fn line(exact: bool, x0: i16, y0: i16, x1: i16, y1: i16) -> Shape {
+    Shape::Line(Line {
+        exact,
+        x0,
+        y0,
+        x1,
+        y1,
+    })
+}
+
+#[test]
+fn a_half_gives_128_from_either_side() {
+    let disc = Shape::Disc(Disc {
+        x: 1,
+        y: 1,
+        radius: 1,
+    });
+    for level_line in [line(true, 0, 1, 2, 1), line(false, 2, 1, 0, 1), disc] {
+        assert_eq!(drawn(2, 0, 255, level_line), (Ok(4), vec![128; 4]));
+        assert_eq!(drawn(2, 255, 0, level_line), (Ok(4), vec![128; 4]));
+    }
+}
+
+fn refused(number: u64) -> Answer {
+    Err(Refusal { number, place: 0 })
+}
+
+#[test]
+fn radius_255_is_drawn_and_256_refused() {
+    let disc = |radius| {
+        Shape::Disc(Disc {
+            x: 128,
+            y: 128,
+            radius,
+        })
+    };
+    let ring = |radius| {
+        Shape::Ring(Ring {
+            x: 128,
+            y: 128,
+            radius,
+            width: radius,
+        })
+    };
+    for shape in [disc(255), ring(255)] {
+        // The page's corners are sqrt(2)·128 from the centre, well within 255.
+        assert_eq!(drawn(256, 0, 9, shape), (Ok(65_536), vec![9; 65_536]));
+    }
+    for shape in [disc(256), ring(256)] {
+        assert_eq!(drawn(256, 0, 9, shape), (refused(10), vec![0; 65_536]));
+    }
+}
+
+#[test]
+fn coordinate_4095_is_drawn_and_4096_refused() {
+    for exact in [true, false] {
+        let (answer, page) = drawn(2, 0, 255, line(exact, -4096, 1, 4095, 1));
+        assert_eq!((answer, page), (Ok(4), vec![128; 4]));
+        let (answer, page) = drawn(2, 0, 255, line(exact, 1, 4095, 1, -4096));
+        assert_eq!((answer, page), (Ok(4), vec![128; 4]));
+        for shape in [
+            line(exact, -4096, 1, 4096, 1),
+            line(exact, 1, -4097, 1, 4095),
+        ] {
+            assert_eq!(drawn(2, 0, 255, shape), (refused(7), vec![0; 4]));
+        }
+    }
+    let disc = |x| {
+        Shape::Disc(Disc {
+            x,
+            y: 0,
+            radius: 255,
+        })
+    };
+    assert_eq!(drawn(2, 0, 255, disc(4095)), (Ok(0), vec![0; 4]));
+    assert_eq!(drawn(2, 0, 255, disc(4096)), (refused(7), vec![0; 4]));
+}

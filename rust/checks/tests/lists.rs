@@ -1,0 +1,311 @@
+//! Drawing lists: the library's check and reader against the reference and against stored rows.
+
+use checks::calls::answer;
+use checks::cases::rows;
+use checks::classes::Tally;
+use checks::library;
+use checks::listings::{damage, list};
+use checks::random::Random;
+use reference::format::{encode_header, encode_record, Header, HEADER_LENGTH, LONGEST_LIST};
+use reference::list::check;
+use reference::reader::read_record;
+use reference::refusal::Refusal;
+use reference::shape::{Clip, Disc, Line, Record, Ring, Setting, Shape};
+
+const DAMAGED: u32 = 60_000;
+const RANDOM_BYTES: u32 = 60_000;
+/// Every refusal has to come up at least this often among the damaged lists.
+const LEAST: u32 = 100;
+
+const HEADER: Header = Header {
+    width: 20,
+    height: 16,
+    background: 9,
+};
+const PAGE: usize = 20 * 16;
+
+type Answer = Result<Header, Refusal>;
+
+fn refused(number: u64, place: usize) -> Answer {
+    Err(Refusal { number, place })
+}
+
+/// The answer that library and reference agree on.
+fn checked(list: &[u8], page_length: usize) -> Answer {
+    let expected = check(list, page_length).map(|accepted| accepted.header);
+    let found = library::check_list(list, page_length);
+    assert_eq!(found, expected, "page of {page_length}, list {list:02x?}");
+    expected
+}
+
+/// Reads one record by both, and says how many bytes it has if it is not refused.
+fn read_length(bytes: &[u8], width: u16, height: u16) -> Option<usize> {
+    let expected = read_record(bytes, width, height);
+    let found = library::read_record(bytes, width, height);
+    assert_eq!(found, expected, "{width} by {height}: {bytes:02x?}");
+    expected.0.is_ok().then(|| bytes.len() - expected.1.len())
+}
+
+/// One record of each kind, without fault on the page of `HEADER`.
+fn each_kind() -> Vec<Record> {
+    let line = |exact| {
+        let (x0, y0, x1, y1) = (-4096, 4095, 7, -2);
+        Shape::Line(Line {
+            exact,
+            x0,
+            y0,
+            x1,
+            y1,
+        })
+    };
+    let (x, y, radius, width) = (4095, -4096, 255, 255);
+    let clip = Clip {
+        x0: 3,
+        y0: 16,
+        x1: 20,
+        y1: 16,
+    };
+    let ring = Ring {
+        x,
+        y,
+        radius,
+        width,
+    };
+    vec![
+        Record::Setting(Setting::Clip(clip)),
+        Record::Setting(Setting::Level(0)),
+        Record::Shape(line(true)),
+        Record::Shape(line(false)),
+        Record::Shape(Shape::Disc(Disc { x, y, radius })),
+        Record::Shape(Shape::Ring(ring)),
+        Record::End,
+    ]
+}
+
+/// The bytes of a kind, of some numbers of two bytes, and of some of one byte.
+fn bytes_of(kind: u8, words: &[i32], last: &[u8]) -> Vec<u8> {
+    let mut bytes = vec![kind];
+    bytes.extend(words.iter().flat_map(|&word| (word as u16).to_le_bytes()));
+    bytes.extend(last);
+    bytes
+}
+
+/// Whole records with one fault each, and the number of it.
+fn faulty_records() -> Vec<(u64, Vec<u8>)> {
+    let mut faulty: Vec<(u64, Vec<u8>)> = (7..=255).map(|kind| (4, vec![kind])).collect();
+    for outside in [-32768, -4097, 4096, 32767] {
+        for changed in 0..4 {
+            let mut ends = [1, 2, 1, 2];
+            ends[changed] = outside;
+            faulty.extend([3, 4].map(|kind| (7, bytes_of(kind, &ends, &[]))));
+            let centre = &ends[changed / 2 * 2..][..2];
+            faulty.push((7, bytes_of(5, centre, &[0])));
+            faulty.push((7, bytes_of(6, centre, &[0, 0])));
+        }
+    }
+    let clips = [
+        [3, 0, 2, 9],
+        [0, 3, 9, 2],
+        [0, 0, 21, 16],
+        [0, 0, 20, 17],
+        [0, 0, 65535, 16],
+    ];
+    faulty.extend(clips.map(|clip| (8, bytes_of(1, &clip, &[]))));
+    faulty.extend([3, 4].map(|kind| (9, bytes_of(kind, &[-4096, 4095, -4096, 4095], &[]))));
+    faulty.push((10, bytes_of(5, &[0, 0], &[0])));
+    faulty.extend([0, 1].map(|width| (10, bytes_of(6, &[0, 0], &[0, width]))));
+    faulty.extend([[1, 0], [255, 0], [1, 2], [254, 255]].map(|r| (11, bytes_of(6, &[0, 0], &r))));
+    faulty
+}
+
+/// A list of these records, and the place of each.
+fn list_of(records: &[Record]) -> (Vec<u8>, Vec<usize>) {
+    let mut list = encode_header(&HEADER);
+    let mut places = Vec::new();
+    for record in records {
+        places.push(list.len());
+        list.extend(encode_record(record));
+    }
+    (list, places)
+}
+
+#[test]
+fn stored_rows_agree() {
+    let rows = rows("reads");
+    for row in &rows {
+        let found = answer(&format!("reads {}", row.call));
+        assert_eq!(found.trim(), row.answer, "{}", row.call);
+    }
+    assert_eq!(rows.len(), 90);
+}
+
+#[test]
+fn each_kind_cut_at_every_byte() {
+    for record in each_kind() {
+        let bytes = encode_record(&record);
+        for length in 0..bytes.len() {
+            let list = [encode_header(&HEADER), bytes[..length].to_vec()].concat();
+            assert_eq!(checked(&list, PAGE), refused(5, HEADER_LENGTH));
+            assert_eq!(read_length(&bytes[..length], 20, 16), None);
+        }
+        assert_eq!(read_length(&bytes, 20, 16), Some(bytes.len()));
+        for (width, height) in [(0, 16), (20, 0), (1025, 16), (20, 1025)] {
+            assert_eq!(read_length(&bytes, width, height), None);
+        }
+    }
+}
+
+#[test]
+fn a_mixed_list_cut_at_every_byte() {
+    let (list, places) = list_of(&each_kind());
+    assert_eq!(checked(&list, PAGE), Ok(HEADER));
+    for length in 0..list.len() {
+        let cut = places.iter().rfind(|&&place| place <= length);
+        let place = cut.copied().unwrap_or(0);
+        assert_eq!(checked(&list[..length], PAGE), refused(5, place));
+    }
+}
+
+#[test]
+fn every_fault_at_every_record() {
+    let (list, places) = list_of(&each_kind());
+    for (number, faulty) in faulty_records() {
+        for &place in &places {
+            // What follows the first fault does not matter.
+            for behind in [&list[place..], &[0xFF; 20], &[]] {
+                let spoilt = [&list[..place], &faulty, behind].concat();
+                assert_eq!(checked(&spoilt, PAGE), refused(number, place));
+            }
+        }
+        assert_eq!(read_length(&faulty, 20, 16), None);
+    }
+}
+
+#[test]
+fn lists_about_the_greatest_length() {
+    // Levels have two bytes and lines nine, so that with a line the length is even.
+    let line = encode_record(&each_kind()[2]);
+    for length in LONGEST_LIST - 1..=LONGEST_LIST + 1 {
+        let mut list = encode_header(&HEADER);
+        if length % 2 == 0 {
+            list.extend(&line);
+        }
+        while list.len() + 1 < length {
+            list.extend([2, 77]);
+        }
+        list.push(0);
+        let too_long = length > LONGEST_LIST;
+        let told = |answer| if too_long { refused(12, 0) } else { answer };
+        assert_eq!(list.len(), length);
+        assert_eq!(checked(&list, PAGE), told(Ok(HEADER)));
+        list[length - 1] = 2;
+        assert_eq!(checked(&list, PAGE), told(refused(5, length - 1)));
+        list[length - 3] = 0;
+        assert_eq!(checked(&list, PAGE), told(refused(6, length - 2)));
+        list[..3].fill(0);
+        assert_eq!(checked(&list, PAGE), told(refused(1, 0)));
+    }
+}
+
+#[test]
+fn a_full_list_without_an_end() {
+    let mut list = encode_header(&HEADER);
+    while list.len() < LONGEST_LIST {
+        list.extend([2, 77]);
+    }
+    assert_eq!(checked(&list, PAGE), refused(5, LONGEST_LIST));
+}
+
+#[test]
+fn surplus_bytes() {
+    let (list, _) = list_of(&each_kind());
+    for surplus in 1..40 {
+        for byte in [0, 2, 7, 0xFF] {
+            let longer = [list.clone(), vec![byte; surplus]].concat();
+            assert_eq!(checked(&longer, PAGE), refused(6, list.len()));
+        }
+    }
+}
+
+#[test]
+fn wrong_marks_versions_and_sizes() {
+    let (list, _) = list_of(&each_kind());
+    let with = |place: usize, bytes: &[u8]| {
+        let mut changed = list.clone();
+        changed[place..place + bytes.len()].copy_from_slice(bytes);
+        changed
+    };
+    for (place, &right) in list[..3].iter().enumerate() {
+        for byte in (0..=255).filter(|&byte| byte != right) {
+            assert_eq!(checked(&with(place, &[byte]), 0), refused(1, 0));
+        }
+    }
+    for version in (0..=u16::MAX).filter(|&version| version != 1) {
+        assert_eq!(checked(&with(3, &version.to_le_bytes()), 0), refused(2, 0));
+    }
+    for place in [5, 7] {
+        for side in [0, 1025, u16::MAX] {
+            assert_eq!(checked(&with(place, &side.to_le_bytes()), 0), refused(3, 0));
+        }
+    }
+    for length in 0..HEADER_LENGTH {
+        assert_eq!(checked(&vec![0xFF; length], 0), refused(5, 0));
+    }
+    for page_length in [0, PAGE - 1] {
+        assert_eq!(checked(&list, page_length), refused(21, 0));
+    }
+    assert_eq!(checked(&list, usize::MAX), Ok(HEADER));
+}
+
+#[test]
+fn random_and_damaged_lists_agree() {
+    let mut random = Random::new(7);
+    let mut tally = Tally::default();
+    for _ in 0..DAMAGED {
+        let mut list = list(&mut random);
+        for _ in 0..random.pick(&[0, 1, 1, 1, 2, 5]) {
+            if !list.is_empty() {
+                damage(&mut random, &mut list);
+            }
+        }
+        let page_length = random.pick(&[0, 39, 1600, 1 << 20, 1 << 20, 1 << 20]);
+        let class = match checked(&list, page_length) {
+            Ok(_) => "accepted".to_string(),
+            Err(refusal) => format!("refused {}", refusal.number),
+        };
+        tally.meet(vec![class]);
+    }
+    let numbers = [1, 2, 3, 4, 5, 6, 7, 8, 9, 10, 11, 21];
+    tally.require(numbers.map(|n| format!("refused {n}")).into(), LEAST);
+    tally.require(vec!["accepted".to_string()], LEAST);
+}
+
+/// Reads damaged lists record by record, each from where the last one ended.
+#[test]
+fn damaged_lists_read_alike() {
+    let mut random = Random::new(8);
+    for _ in 0..DAMAGED {
+        let mut list = list(&mut random);
+        damage(&mut random, &mut list);
+        let (width, height) = (random.between(1, 40) as u16, random.between(1, 40) as u16);
+        let mut place = HEADER_LENGTH.min(list.len());
+        while let Some(length) = read_length(&list[place..], width, height) {
+            place += length;
+        }
+    }
+}
+
+#[test]
+fn random_bytes_agree() {
+    let mut random = Random::new(9);
+    for _ in 0..RANDOM_BYTES {
+        let small = |random: &mut Random| random.between(0, 12) as u8;
+        let length = random.between(0, 24);
+        let bytes: Vec<u8> = (0..length).map(|_| small(&mut random)).collect();
+        let side = random.pick(&[1, 12, 1024, 1024, 1024, 0, 1025]);
+        read_length(&bytes, side, 1024);
+        let list = [encode_header(&HEADER), bytes.clone()].concat();
+        checked(&list, PAGE).ok();
+        checked(&bytes, PAGE).ok();
+    }
+}
