@@ -17,6 +17,11 @@ pub fn draw_shape(
     if let Some(refusal) = first_refusal(page.len(), size, clip, shape) {
         return Err(refusal);
     }
+    Ok(paint(page, size, clip, level, shape))
+}
+
+/// Draws what has no fault.
+pub(crate) fn paint(page: &mut [u8], size: Size, clip: Clip, level: u8, shape: Shape) -> u64 {
     let mut canvas = Canvas {
         page,
         width: size.width.into(),
@@ -26,7 +31,7 @@ pub fn draw_shape(
         bottom: clip.y1.into(),
         level,
     };
-    Ok(match shape {
+    match shape {
         Shape::Line(line) => draw_line(&mut canvas, line),
         Shape::Disc(Disc { x, y, radius }) => draw_ring(&mut canvas, x, y, radius, 0),
         Shape::Ring(Ring {
@@ -35,24 +40,34 @@ pub fn draw_shape(
             radius,
             width,
         }) => draw_ring(&mut canvas, x, y, radius, radius - width),
-    })
+    }
 }
 
 fn first_refusal(length: usize, size: Size, clip: Clip, shape: Shape) -> Option<Refusal> {
+    page_refusal(length, size)
+        .or_else(|| clip_refusal(clip, size))
+        .or_else(|| shape_refusal(shape))
+}
+
+pub(crate) fn page_refusal(length: usize, size: Size) -> Option<Refusal> {
     let Size { width, height } = size;
     let lawful_side = |side| (1..=1024).contains(&side);
     if !lawful_side(width) || !lawful_side(height) {
         Some(Refusal::PageSize)
     } else if length < usize::from(width) * usize::from(height) {
         Some(Refusal::PageTooShort)
-    } else if clip.x0 > clip.x1 || clip.x1 > width || clip.y0 > clip.y1 || clip.y1 > height {
-        Some(Refusal::Clip)
     } else {
-        shape_refusal(shape)
+        None
     }
 }
 
-fn shape_refusal(shape: Shape) -> Option<Refusal> {
+pub(crate) fn clip_refusal(clip: Clip, size: Size) -> Option<Refusal> {
+    let lawful = clip.x0 <= clip.x1 && clip.x1 <= size.width;
+    let lawful = lawful && clip.y0 <= clip.y1 && clip.y1 <= size.height;
+    (!lawful).then_some(Refusal::Clip)
+}
+
+pub(crate) fn shape_refusal(shape: Shape) -> Option<Refusal> {
     let outside = |corners: &[i16]| corners.iter().any(|c| !(-4096..=4095).contains(c));
     let (far, form) = match shape {
         Shape::Line(l) => {

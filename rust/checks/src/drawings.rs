@@ -8,7 +8,7 @@ use reference::shape::{Clip, Disc, Line, Ring, Shape};
 
 const UNLAWFUL_SIDES: [u16; 3] = [0, 1025, u16::MAX];
 /// The reference asks every pixel of the clip, so that a clip is kept small on any page.
-const LONGEST_CLIP: i64 = 24;
+pub(crate) const LONGEST_CLIP: i64 = 24;
 
 /// A page, a clip, a level and a shape; about one in three is turned down.
 pub fn drawing(random: &mut Random) -> ShapeCall {
@@ -34,7 +34,7 @@ pub fn drawing(random: &mut Random) -> ShapeCall {
     }
 }
 
-fn sides(random: &mut Random) -> (u16, u16) {
+pub(crate) fn sides(random: &mut Random) -> (u16, u16) {
     let mut small = || random.between(1, 20) as u16;
     let (width, height) = (small(), small());
     match random.between(0, 63) {
@@ -66,7 +66,7 @@ fn page(random: &mut Random, width: u16, height: u16) -> Vec<u8> {
 }
 
 /// A lawful clip wherever the page is lawful.
-fn clip(random: &mut Random, width: u16, height: u16) -> Clip {
+pub(crate) fn clip(random: &mut Random, width: u16, height: u16) -> Clip {
     let mut span = |side: u16| match random.between(0, 7) {
         0 => one_or_none(random, side, 0),
         1 | 2 => one_or_none(random, side, 1),
@@ -111,7 +111,7 @@ fn spoil_clip(random: &mut Random, clip: &mut Clip, width: u16, height: u16) {
 }
 
 /// A corner within or about the clip, often on its very edge.
-fn point_near(random: &mut Random, clip: &Clip) -> (i64, i64) {
+pub(crate) fn point_near(random: &mut Random, clip: &Clip) -> (i64, i64) {
     let mut near = |low: u16, high: u16| {
         let (low, high) = (i64::from(low), i64::from(high));
         match random.between(0, 3) {
@@ -123,7 +123,7 @@ fn point_near(random: &mut Random, clip: &Clip) -> (i64, i64) {
     (near(clip.x0, clip.x1), near(clip.y0, clip.y1))
 }
 
-fn shape(random: &mut Random, near: (i64, i64), clip: &Clip) -> Shape {
+pub(crate) fn shape(random: &mut Random, near: (i64, i64), clip: &Clip) -> Shape {
     match random.between(0, 9) {
         0..=5 => Shape::Line(line(random, near)),
         6 => Shape::Line(line_between(random, near, last_corner(clip))),

@@ -1,14 +1,15 @@
 //! Shared parts of the comparison tests, of the `calls` program and of the benchmark.
 
 pub mod baseline;
+pub mod baseline_list;
 pub mod calls;
 pub mod cases;
 pub mod classes;
 pub mod drawings;
-
 pub mod library;
 pub mod listings;
 pub mod notation;
+pub mod pictures;
 pub mod random;
 pub mod reference_writer;
 pub mod rows;

@@ -4,6 +4,7 @@ use crate::notation::Writable;
 use crate::rows::{ShapeCall, Writing};
 use reference::coverage::Fraction;
 use reference::format::Header;
+use reference::list::Drawn;
 use reference::refusal::Refusal;
 use reference::shape::{Clip, Disc, Line, Record, Ring, Setting, Shape};
 
@@ -39,10 +40,18 @@ pub fn check_list(list: &[u8], page_length: usize) -> Result<Header, Refusal> {
             height: header.size.height,
             background: header.background,
         }),
-        Err(greystroke::ListRefusal { refusal, place }) => Err(Refusal {
-            number: refusal.number(),
-            place,
+        Err(refusal) => Err(with_place(refusal)),
+    }
+}
+
+pub fn draw_list(list: &[u8], page: &mut [u8]) -> Result<Drawn, Refusal> {
+    match greystroke::draw_list(page, list) {
+        Ok(picture) => Ok(Drawn {
+            width: picture.size.width,
+            height: picture.size.height,
+            touched: picture.touched,
         }),
+        Err(refusal) => Err(with_place(refusal)),
     }
 }
 
@@ -62,6 +71,13 @@ pub fn write(writing: &mut Writing, what: &Writable) -> Result<(), Refusal> {
     let (place, size) = (writer.place, writer.size);
     (writing.place, writing.width, writing.height) = (place, size.width, size.height);
     outcome.map_err(without_place)
+}
+
+fn with_place(refused: greystroke::ListRefusal) -> Refusal {
+    Refusal {
+        number: refused.refusal.number(),
+        place: refused.place,
+    }
 }
 
 /// Calls other than those on a whole list refuse at place 0.

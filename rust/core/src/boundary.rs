@@ -37,6 +37,17 @@ pub struct CheckAnswer {
     pub background: u64,
 }
 
+/// The page's size and the number of touched pixels when `refusal` is 0; else the place of the
+/// refusal.
+#[repr(C)]
+pub struct ListAnswer {
+    pub refusal: u64,
+    pub place: usize,
+    pub w: u64,
+    pub h: u64,
+    pub touched: u64,
+}
+
 /// The place and the page's size from now on.
 #[repr(C)]
 pub struct WriteAnswer {
@@ -134,6 +145,17 @@ extern "C" {
         h: u16,
     ) -> ReadAnswer;
     pub fn greystroke_check_list(list: *const u8, list_length: usize, page: usize) -> CheckAnswer;
+}
+
+// Safe to call if the page is a slice that nothing else reads or writes meanwhile and the list one
+// that nothing writes meanwhile; the two may not overlap.
+extern "C" {
+    pub fn greystroke_draw_list(
+        page: *mut u8,
+        page_length: usize,
+        list: *const u8,
+        list_length: usize,
+    ) -> ListAnswer;
 }
 
 // Safe to call if the list is a slice that nothing else reads or writes meanwhile; any place and

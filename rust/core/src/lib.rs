@@ -4,7 +4,7 @@
 //! the corners (x, y) and (x + 1, y + 1). [`draw_shape`] blends a shape into a lent page, one byte
 //! a pixel. [`coverage`] tells the share of one pixel that a shape covers, as a fraction that is
 //! not reduced. A drawing list holds many shapes as bytes: [`Writer`] makes one, [`read_record`]
-//! reads it record by record, and [`check_list`] tries it whole.
+//! reads it record by record, [`check_list`] tries it whole, and [`draw_list`] draws it.
 //!
 //! ```
 //! use greystroke::{coverage, draw_shape, Clip, Fraction, Line, Refusal, Shape, Size};
@@ -23,11 +23,13 @@ mod boundary;
 mod coverage;
 mod drawing;
 mod list;
+mod picture;
 mod refusal;
 mod shape;
 
 pub use coverage::{coverage, Fraction};
 pub use drawing::{draw_shape, Clip, Size};
 pub use list::{check_list, read_record, Header, ListRefusal, Record, Setting, Writer};
+pub use picture::{draw_list, Picture};
 pub use refusal::Refusal;
 pub use shape::{Disc, Line, Ring, Shape};

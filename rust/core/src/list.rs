@@ -262,7 +262,7 @@ impl<'a> Writer<'a> {
 }
 
 /// Nothing, or the refusal of this number.
-fn accepted(refusal: u64) -> Result<(), Refusal> {
+pub(crate) fn accepted(refusal: u64) -> Result<(), Refusal> {
     match refusal {
         0 => Ok(()),
         number => Err(Refusal::from_number(number).expect("a refusal has a number of its own")),
@@ -270,7 +270,7 @@ fn accepted(refusal: u64) -> Result<(), Refusal> {
 }
 
 /// A field of an answer, which crosses wider than it is.
-fn narrow<W: Copy + Debug, N: TryFrom<W>>(wide: W) -> N {
+pub(crate) fn narrow<W: Copy + Debug, N: TryFrom<W>>(wide: W) -> N {
     let narrowed = N::try_from(wide).ok();
     narrowed.unwrap_or_else(|| panic!("{wide:?} is too wide for its field"))
 }

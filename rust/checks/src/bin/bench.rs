@@ -4,9 +4,12 @@
 //! Lines: `ratio NAME VALUE` and `growth NAME SIZE NANOSECONDS`, each kind after a line with `#`
 //! that names the inputs.
 
-use checks::baseline;
 use checks::random::Random;
-use greystroke::{draw_shape, Clip, Disc, Line, Refusal, Ring, Shape, Size};
+use checks::{baseline, baseline_list};
+use greystroke::{
+    check_list, draw_list, draw_shape, Clip, Disc, Header, Line, Record, Refusal, Ring, Setting,
+    Shape, Size, Writer,
+};
 use std::hint::black_box;
 use std::time::{Duration, Instant};
 
@@ -16,6 +19,8 @@ const GROWTH_TIME: Duration = Duration::from_secs(2);
 /// The side of the page unless a line says otherwise.
 const SIDE: u16 = 1024;
 const SHAPES: usize = 256;
+const LISTED_SHAPES: usize = 1000;
+const LONGEST_LIST: usize = 65_536;
 /// How often one shape is drawn between two looks at the clock.
 const REPEATS: usize = 32;
 
@@ -202,6 +207,142 @@ fn print_ratios() {
     );
 }
 
+/// A long or a short line, a far one, a disc or a ring.
+fn mixed_shape(random: &mut Random) -> Shape {
+    let longer = random.between(16, 1000);
+    match random.between(0, 5) {
+        0 | 1 => line_within(random, longer),
+        2 => line_within(random, 16),
+        3 => far_line(random),
+        4 => Shape::Disc(disc(random)),
+        _ => ring(random),
+    }
+}
+
+/// Keeps at least half of the columns and of the rows.
+fn wide_clip(random: &mut Random) -> Clip {
+    let mut edge = |low, high| random.between(low, high) as u16;
+    Clip {
+        x0: edge(0, 256),
+        y0: edge(0, 256),
+        x1: edge(768, 1024),
+        y1: edge(768, 1024),
+    }
+}
+
+/// A writer past the header of a list for the largest page.
+fn started(list: &mut [u8]) -> Writer<'_> {
+    let size = Size {
+        width: SIDE,
+        height: SIDE,
+    };
+    let mut writer = Writer::new(list);
+    let header = Header {
+        size,
+        background: 255,
+    };
+    writer.write_header(header).expect("a lawful header");
+    writer
+}
+
+fn write(writer: &mut Writer, record: Record) {
+    writer.write_record(record).expect("a lawful record");
+}
+
+/// A shape, most with a level of their own and one in eight with a clip.
+fn write_mixed(random: &mut Random, writer: &mut Writer) {
+    if random.one_in(8) {
+        write(writer, Record::Setting(Setting::Clip(wide_clip(random))));
+    }
+    if !random.one_in(4) {
+        let level = random.between(0, 255) as u8;
+        write(writer, Record::Setting(Setting::Level(level)));
+    }
+    write(writer, Record::Shape(mixed_shape(random)));
+}
+
+fn mixed_list(shapes: usize) -> Vec<u8> {
+    let mut random = Random::new(11);
+    let mut list = vec![0; LONGEST_LIST];
+    let mut writer = started(&mut list);
+    for _ in 0..shapes {
+        write_mixed(&mut random, &mut writer);
+    }
+    write(&mut writer, Record::End);
+    let length = writer.place;
+    list.truncate(length);
+    list
+}
+
+/// Mixed records to the last byte a list may have; single levels fill what is left.
+fn full_list() -> Vec<u8> {
+    let mut random = Random::new(12);
+    let mut list = vec![0; LONGEST_LIST];
+    let mut writer = started(&mut list);
+    while writer.place + 40 < LONGEST_LIST {
+        write_mixed(&mut random, &mut writer);
+    }
+    // A ring has seven bytes and a level two, so that the end record comes last.
+    if writer.place.is_multiple_of(2) {
+        write(&mut writer, Record::Shape(ring(&mut random)));
+    }
+    while writer.place + 1 < LONGEST_LIST {
+        write(&mut writer, Record::Setting(Setting::Level(9)));
+    }
+    write(&mut writer, Record::End);
+    list
+}
+
+/// The best times of two jobs in turns.
+fn best_in_turns<T>(
+    mut one: impl FnMut() -> T,
+    mut other: impl FnMut() -> T,
+) -> (Duration, Duration) {
+    let mut best = (Duration::MAX, Duration::MAX);
+    let start = Instant::now();
+    while start.elapsed() < RATIO_TIME {
+        let begin = Instant::now();
+        black_box(one());
+        let between = Instant::now();
+        black_box(other());
+        best.0 = best.0.min(between - begin);
+        best.1 = best.1.min(between.elapsed());
+    }
+    best
+}
+
+fn print_list_ratio(name: &str, inputs: &str, (library, plain): (Duration, Duration)) {
+    println!("# {name}: {inputs}");
+    let (found, base) = (nanoseconds(library, 1), nanoseconds(plain, 1));
+    println!("# {name}: {found:.0} ns a list, baseline {base:.0} ns");
+    println!("ratio {name} {:.2}", found / base);
+}
+
+fn print_list_ratios() {
+    let list = mixed_list(LISTED_SHAPES);
+    let length = usize::from(SIDE) * usize::from(SIDE);
+    let (mut page, mut plain_page) = (vec![0; length], vec![0; length]);
+    let drawn = draw_list(&mut page, &list);
+    assert!(drawn.is_ok() && drawn == baseline_list::draw_list(&mut plain_page, &list));
+    assert!(page == plain_page, "the pages differ");
+    let times = best_in_turns(
+        || draw_list(&mut page, black_box(&list)),
+        || baseline_list::draw_list(&mut plain_page, black_box(&list)),
+    );
+    let inputs = format!("{LISTED_SHAPES} mixed shapes, checked and drawn, page {SIDE} by {SIDE}");
+    print_list_ratio("mixed_list", &inputs, times);
+
+    let list = full_list();
+    let checked = check_list(&list, length);
+    assert!(checked.is_ok() && checked == baseline_list::check_list(&list, length));
+    let times = best_in_turns(
+        || check_list(black_box(&list), length),
+        || baseline_list::check_list(black_box(&list), length),
+    );
+    let inputs = format!("a list of {} bytes of mixed records, checked", list.len());
+    print_list_ratio("check_list", &inputs, times);
+}
+
 /// One shape, drawn again and again on a square page.
 struct Sample {
     size: u16,
@@ -312,6 +453,7 @@ fn print_page_growth() {
 
 fn main() {
     print_ratios();
+    print_list_ratios();
     print_shape_growth();
     print_page_growth();
 }

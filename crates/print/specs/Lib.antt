@@ -1,0 +1,3 @@
+-- What the print program writes.
+pub mod Text
+pub mod Printed

@@ -1,0 +1,62 @@
+-- The text of numbers, levels, pages and refusals, byte by byte.
+use mathlib.Core.Bool.{cond, _||_}
+use mathlib.Core.List.{List, [], _∷_, _++_}
+use Prim.Native.Nat.{ℕ, zero, suc, _+_, _-_, _*_, _/_, _%_}
+use lib.Dec.{ltb, eqb}
+use lib.ListN.{take}
+
+abbrev pub space : ℕ
+space = 32
+
+abbrev pub feed : ℕ
+feed = 10
+
+-- the last decimal digit of n
+abbrev pub digitOf : ℕ → ℕ
+digitOf n = 48 + n % 10
+
+-- n in decimal, without leading zeros; at most k digits are made, which is all of them where n < 10^k
+unfoldable pub digits : ℕ → ℕ → List ℕ
+digits zero n = []
+digits (suc k) n = cond (ltb n 10) (digitOf n ∷ []) (digits k (n / 10) ++ digitOf n ∷ [])
+
+-- a number and the byte that parts it from what follows
+abbrev pub number : ℕ → ℕ → ℕ → List ℕ
+number k n after = digits k n ++ after ∷ []
+
+-- what follows the level in column x of a row of w levels: a line holds 16 of them, or those that are left
+unfoldable pub afterLevel : ℕ → ℕ → ℕ
+afterLevel w x = cond (eqb (x + 1) w || eqb ((x + 1) % 16) 0) feed space
+
+unfoldable pub nextColumn : ℕ → ℕ → ℕ
+nextColumn w x = cond (eqb (x + 1) w) 0 (x + 1)
+
+-- levels from column x on, row after row
+unfoldable pub levelsText : ℕ → ℕ → List ℕ → List ℕ
+levelsText w x [] = []
+levelsText w x (v ∷ vs) = number 3 v (afterLevel w x) ++ levelsText w (nextColumn w x) vs
+
+-- "refused N at P"
+unfoldable pub refusalText : ℕ → ℕ → List ℕ
+refusalText n place =
+    114 ∷ 101 ∷ 102 ∷ 117 ∷ 115 ∷ 101 ∷ 100 ∷ space ∷ [] ++ number 20 n space ++ 97 ∷ 116 ∷ space ∷ [] ++ number 20 place feed
+
+-- "P2", "# touched N", width and height, and "255", each on its line
+unfoldable pub headText : ℕ → ℕ → ℕ → List ℕ
+headText w h touched =
+    80 ∷ 50 ∷ feed ∷ 35 ∷ space ∷ 116 ∷ 111 ∷ 117 ∷ 99 ∷ 104 ∷ 101 ∷ 100 ∷ space ∷ [] ++ number 20 touched feed
+    ++ number 20 w space ++ number 20 h feed ++ 50 ∷ 53 ∷ 53 ∷ feed ∷ []
+
+-- a page of w by h
+unfoldable pub pageText : ℕ → ℕ → ℕ → List ℕ → List ℕ
+pageText w h touched page = headText w h touched ++ levelsText w 0 (take (w * h) page)
+
+-- the number that decimal digits stand for, behind those that stand for n
+abbrev pub valueFrom : ℕ → List ℕ → ℕ
+valueFrom n [] = n
+valueFrom n (b ∷ bs) = valueFrom (10 * n + (b - 48)) bs
+
+-- 10^k
+abbrev pub tenTo : ℕ → ℕ
+tenTo zero = 1
+tenTo (suc k) = 10 * tenTo k

@@ -1,0 +1,45 @@
+/* Writes a list of one disc, draws it, and sums the light left in the page's upper left quarter. */
+#include "greystroke.h"
+
+#include <inttypes.h>
+#include <stdio.h>
+
+enum { WIDTH = 32, HEIGHT = 32, BACKGROUND = 255, LEVEL = 0, RADIUS = 12 };
+
+static uint8_t list[64];
+static uint8_t page[WIDTH * HEIGHT];
+
+/* Hands back how many bytes were written, or 0 after a refusal. */
+static size_t write_list(void) {
+    struct greystroke_write_answer at =
+        greystroke_write_header(list, sizeof list, 0, 0, 0, WIDTH, HEIGHT, BACKGROUND);
+    if (at.refusal == 0)
+        at = greystroke_write_level(list, sizeof list, at.place, at.w, at.h, LEVEL);
+    if (at.refusal == 0)
+        at = greystroke_write_disc(
+            list, sizeof list, at.place, at.w, at.h, WIDTH / 2, HEIGHT / 2, RADIUS);
+    if (at.refusal == 0)
+        at = greystroke_write_end(list, sizeof list, at.place, at.w, at.h);
+    return at.refusal == 0 ? at.place : 0;
+}
+
+static uint64_t light(size_t left, size_t top, size_t right, size_t bottom) {
+    uint64_t sum = 0;
+    for (size_t y = top; y < bottom; y++)
+        for (size_t x = left; x < right; x++)
+            sum += page[y * WIDTH + x];
+    return sum;
+}
+
+int main(void) {
+    size_t length = write_list();
+    struct greystroke_list_answer drawn = greystroke_draw_list(page, sizeof page, list, length);
+    if (drawn.refusal != 0) {
+        printf("refused %" PRIu64 " at %zu\n", drawn.refusal, drawn.place);
+        return 1;
+    }
+    printf("touched %" PRIu64 "\n", drawn.touched);
+    printf("light %" PRIu64 "\n", light(0, 0, WIDTH / 2, HEIGHT / 2));
+    printf("light %" PRIu64 "\n", light(0, 0, WIDTH, HEIGHT));
+    return 0;
+}

@@ -1,0 +1,139 @@
+//! Checking and drawing a whole list as one would first write it in Rust.
+//!
+//! The list is read twice, record by record: once to find its first fault, once to draw.
+
+use crate::baseline::{clip_refusal, page_refusal, paint, shape_refusal};
+use greystroke::{
+    Clip, Disc, Header, Line, ListRefusal, Picture, Record, Refusal, Ring, Setting, Shape, Size,
+};
+
+const LONGEST_LIST: usize = 65_536;
+const HEADER_LENGTH: usize = 10;
+
+/// What [`greystroke::check_list`] does.
+pub fn check_list(list: &[u8], page_length: usize) -> Result<Header, ListRefusal> {
+    let at = |place| move |refusal| ListRefusal { refusal, place };
+    let header = check_header(list, page_length).map_err(at(0))?;
+    let mut place = HEADER_LENGTH;
+    loop {
+        let (record, length) = decode(&list[place..]).map_err(at(place))?;
+        if let Some(refusal) = record_refusal(record, header.size) {
+            return Err(at(place)(refusal));
+        }
+        place += length;
+        if record == Record::End {
+            break;
+        }
+    }
+    if place < list.len() {
+        return Err(at(place)(Refusal::SurplusBytes));
+    }
+    Ok(header)
+}
+
+/// What [`greystroke::draw_list`] does.
+pub fn draw_list(page: &mut [u8], list: &[u8]) -> Result<Picture, ListRefusal> {
+    let Header { size, background } = check_list(list, page.len())?;
+    page[..usize::from(size.width) * usize::from(size.height)].fill(background);
+    let mut clip = Clip::whole(size);
+    let mut level = 255;
+    let mut touched = 0;
+    let mut rest = &list[HEADER_LENGTH..];
+    while let Ok((record, length)) = decode(rest) {
+        match record {
+            Record::End => break,
+            Record::Setting(Setting::Clip(next)) => clip = next,
+            Record::Setting(Setting::Level(next)) => level = next,
+            Record::Shape(shape) => touched += paint(page, size, clip, level, shape),
+        }
+        rest = &rest[length..];
+    }
+    Ok(Picture { size, touched })
+}
+
+fn check_header(list: &[u8], page_length: usize) -> Result<Header, Refusal> {
+    if list.len() > LONGEST_LIST {
+        return Err(Refusal::ListTooLong);
+    } else if list.len() < HEADER_LENGTH {
+        return Err(Refusal::CutShort);
+    } else if &list[..3] != b"INK" {
+        return Err(Refusal::WrongMark);
+    } else if word(list, 3) != 1 {
+        return Err(Refusal::WrongVersion);
+    }
+    let (width, height) = (word(list, 5), word(list, 7));
+    let size = Size { width, height };
+    match page_refusal(page_length, size) {
+        Some(refusal) => Err(refusal),
+        None => Ok(Header {
+            size,
+            background: list[9],
+        }),
+    }
+}
+
+fn record_refusal(record: Record, size: Size) -> Option<Refusal> {
+    match record {
+        Record::End | Record::Setting(Setting::Level(_)) => None,
+        Record::Setting(Setting::Clip(clip)) => clip_refusal(clip, size),
+        Record::Shape(shape) => shape_refusal(shape),
+    }
+}
+
+/// The record at the front of the bytes, and how many it has.
+fn decode(bytes: &[u8]) -> Result<(Record, usize), Refusal> {
+    let &kind = bytes.first().ok_or(Refusal::CutShort)?;
+    let length = match kind {
+        0 => 1,
+        1 | 3 | 4 => 9,
+        2 => 2,
+        5 => 6,
+        6 => 7,
+        _ => return Err(Refusal::UnknownKind),
+    };
+    let bytes = bytes.get(..length).ok_or(Refusal::CutShort)?;
+    let record = match kind {
+        0 => Record::End,
+        1 => Record::Setting(Setting::Clip(Clip {
+            x0: word(bytes, 1),
+            y0: word(bytes, 3),
+            x1: word(bytes, 5),
+            y1: word(bytes, 7),
+        })),
+        2 => Record::Setting(Setting::Level(bytes[1])),
+        _ => Record::Shape(decode_shape(bytes)),
+    };
+    Ok((record, length))
+}
+
+fn decode_shape(bytes: &[u8]) -> Shape {
+    let (x, y) = (signed(bytes, 1), signed(bytes, 3));
+    match bytes[0] {
+        5 => Shape::Disc(Disc {
+            x,
+            y,
+            radius: bytes[5].into(),
+        }),
+        6 => Shape::Ring(Ring {
+            x,
+            y,
+            radius: bytes[5].into(),
+            width: bytes[6].into(),
+        }),
+        kind => Shape::Line(Line {
+            exact: kind == 3,
+            x0: x,
+            y0: y,
+            x1: signed(bytes, 5),
+            y1: signed(bytes, 7),
+        }),
+    }
+}
+
+fn word(bytes: &[u8], at: usize) -> u16 {
+    u16::from_le_bytes([bytes[at], bytes[at + 1]])
+}
+
+fn signed(bytes: &[u8], at: usize) -> i16 {
+    word(bytes, at) as i16
+}

@@ -1,0 +1,116 @@
+//! Random lists without fault whose shapes meet their page, and pages to draw them on.
+
+use crate::drawings::{clip, point_near, shape, sides, LONGEST_CLIP};
+use crate::random::Random;
+use reference::format::{encode_header, encode_record, Header};
+use reference::shape::{page_size_fault, Clip, Disc, Line, Record, Ring, Setting, Shape};
+
+/// A list, and the header it begins with.
+pub struct Listed {
+    pub header: Header,
+    pub list: Vec<u8>,
+}
+
+/// Up to ten settings and shapes on a page of any lawful size.
+pub fn picture(random: &mut Random) -> Listed {
+    let (width, height) = lawful_sides(random);
+    let mut clip_now = Clip::whole(width, height);
+    let mut records = Vec::new();
+    // The reference asks every pixel of the clip, so that a large page starts with a small clip.
+    if i64::from(width.max(height)) > LONGEST_CLIP || random.one_in(4) {
+        clip_now = clip(random, width, height);
+        records.push(Record::Setting(Setting::Clip(clip_now)));
+    }
+    for _ in 0..random.between(0, 10) {
+        records.push(match random.between(0, 5) {
+            0 => {
+                clip_now = clip(random, width, height);
+                Record::Setting(Setting::Clip(clip_now))
+            }
+            1 => Record::Setting(Setting::Level(level(random))),
+            _ => Record::Shape(shape_about(random, &clip_now)),
+        });
+    }
+    listed(random, width, height, &records)
+}
+
+fn lawful_sides(random: &mut Random) -> (u16, u16) {
+    loop {
+        let (width, height) = sides(random);
+        if page_size_fault(width, height).is_none() {
+            return (width, height);
+        }
+    }
+}
+
+fn level(random: &mut Random) -> u8 {
+    let any = random.bits() as u8;
+    random.pick(&[0, 255, any])
+}
+
+fn shape_about(random: &mut Random, clip: &Clip) -> Shape {
+    loop {
+        let near = point_near(random, clip);
+        let shape = shape(random, near, clip);
+        if shape.first_fault().is_none() {
+            return shape;
+        }
+    }
+}
+
+fn listed(random: &mut Random, width: u16, height: u16, records: &[Record]) -> Listed {
+    let header = Header {
+        width,
+        height,
+        background: level(random),
+    };
+    let mut list = encode_header(&header);
+    list.extend(records.iter().flat_map(encode_record));
+    list.extend(encode_record(&Record::End));
+    Listed { header, list }
+}
+
+/// Up to ten short shapes, each at a level of its own, on a page of at most eight by eight.
+pub fn small_picture(random: &mut Random) -> Listed {
+    let (width, height) = (random.between(1, 8) as u16, random.between(1, 8) as u16);
+    let mut records = Vec::new();
+    for _ in 0..random.between(1, 10) {
+        records.push(Record::Setting(Setting::Level(level(random))));
+        records.push(Record::Shape(short_shape(random)));
+    }
+    listed(random, width, height, &records)
+}
+
+/// Mostly a line, as only a line is drawn with other than its exact coverage.
+fn short_shape(random: &mut Random) -> Shape {
+    let mut corner = || random.between(-2, 10) as i16;
+    let (x, y, x1, y1) = (corner(), corner(), corner(), corner());
+    let radius = random.between(1, 6) as u16;
+    match random.between(0, 7) {
+        0 => Shape::Disc(Disc { x, y, radius }),
+        1 => Shape::Ring(Ring {
+            x,
+            y,
+            radius,
+            width: random.between(1, i64::from(radius)) as u16,
+        }),
+        _ => Shape::Line(Line {
+            exact: random.flip(),
+            x0: x,
+            y0: y,
+            x1: if (x, y) == (x1, y1) { x1 + 1 } else { x1 },
+            y1,
+        }),
+    }
+}
+
+/// A page of random bytes for this header: as long as its pixels, some longer, or too short.
+pub fn page_for(random: &mut Random, header: &Header) -> Vec<u8> {
+    let pixels = usize::from(header.width) * usize::from(header.height);
+    let length = match random.between(0, 19) {
+        0 => random.between(0, pixels as i64 - 1) as usize,
+        1..=9 => pixels + random.between(1, 9) as usize,
+        _ => pixels,
+    };
+    (0..length).map(|_| random.bits() as u8).collect()
+}

@@ -1,0 +1,275 @@
+//! Whole lists drawn: the library against the reference on random and damaged lists and on stored
+//! ones, and each byte against the bound on its distance from the exact blend.
+
+use checks::calls::answer;
+use checks::cases::{list_cases, rows};
+use checks::classes::{kind, Tally};
+use checks::library;
+use checks::listings::{damage, list};
+use checks::pictures::{page_for, picture, small_picture, Listed};
+use checks::random::Random;
+use reference::exact::{bound, byte_after, exact_blend, touches_at, within, BigFraction, Touch};
+use reference::format::{encode_header, encode_record, Header, LONGEST_LIST};
+use reference::list::{check, draw_list, Drawn};
+use reference::natural::Natural;
+use reference::page::page_length;
+use reference::refusal::Refusal;
+use reference::shape::{Line, Record, Setting, Shape};
+
+const PICTURES: u32 = 20_000;
+const DAMAGED: u32 = 20_000;
+const SMALL_PICTURES: u32 = 15_000;
+/// Every class of input has to come up at least this often.
+const LEAST: u32 = 20;
+
+type Answer = Result<Drawn, Refusal>;
+
+/// Draws by both on copies of the page, and hands back what they agree on.
+fn drawn(list: &[u8], before: &[u8]) -> (Answer, Vec<u8>) {
+    let (mut expected, mut found) = (before.to_vec(), before.to_vec());
+    let expected_answer = draw_list(list, &mut expected);
+    let found_answer = library::draw_list(list, &mut found);
+    let length = before.len();
+    assert_eq!(
+        found_answer, expected_answer,
+        "page of {length}, list {list:02x?}"
+    );
+    // The bytes past W·H and those after a refusal are compared too.
+    assert!(found == expected, "page of {length}, list {list:02x?}");
+    match found_answer {
+        Ok(picture) => {
+            let pixels = page_length(picture.width, picture.height);
+            assert!(found[pixels..] == before[pixels..]);
+        }
+        Err(_) => assert!(found == before, "page of {length}, list {list:02x?}"),
+    }
+    (found_answer, found)
+}
+
+/// The refusal, or what was drawn.
+fn classes(list: &[u8], before: &[u8], answer: &Answer) -> Vec<String> {
+    let picture = match answer {
+        Ok(picture) => picture,
+        Err(refusal) => {
+            let at = if refusal.place > 0 { " further on" } else { "" };
+            return vec![format!("refused {}{at}", refusal.number)];
+        }
+    };
+    let accepted = check(list, before.len()).expect("the list was drawn");
+    let drawings = accepted.drawings.iter();
+    let mut classes: Vec<String> = drawings.map(|d| kind(&d.shape).to_string()).collect();
+    let pixels = page_length(picture.width, picture.height);
+    if before.len() > pixels {
+        classes.push("surplus bytes".to_string());
+    }
+    if picture.touched == 0 {
+        classes.push("nothing touched".to_string());
+    }
+    if picture.touched > pixels as u64 {
+        classes.push("more touches than pixels".to_string());
+    }
+    classes.push(format!("{} shapes", accepted.drawings.len()));
+    if picture.width == 1024 || picture.height == 1024 {
+        classes.push("largest side".to_string());
+    }
+    classes
+}
+
+fn named(names: &[&str]) -> Vec<String> {
+    names.iter().map(|name| name.to_string()).collect()
+}
+
+#[test]
+fn stored_rows_agree() {
+    let rows = rows("lists");
+    for row in &rows {
+        let found = answer(&format!("lists {}", row.call));
+        assert_eq!(found, row.answer, "{}", row.call);
+    }
+    assert_eq!(rows.len(), 100);
+}
+
+#[test]
+fn stored_lists_agree() {
+    for case in list_cases() {
+        for length in [0, 1, 65_536] {
+            drawn(&case.list, &vec![0xAA; length]).0.ok();
+        }
+    }
+}
+
+#[test]
+fn random_lists_agree() {
+    let mut random = Random::new(31);
+    let mut tally = Tally::default();
+    for _ in 0..PICTURES {
+        let Listed { header, list } = picture(&mut random);
+        let page = page_for(&mut random, &header);
+        let (answer, _) = drawn(&list, &page);
+        tally.meet(classes(&list, &page, &answer));
+    }
+    tally.require(named(&["exact", "approximate", "disc", "ring"]), LEAST);
+    let others = [
+        "refused 21",
+        "surplus bytes",
+        "nothing touched",
+        "more touches than pixels",
+        "0 shapes",
+        "7 shapes",
+        "largest side",
+    ];
+    tally.require(named(&others), LEAST);
+}
+
+/// A list without fault and a page for it, or a list that may have faults and some page.
+fn list_and_page(random: &mut Random) -> (Vec<u8>, Vec<u8>) {
+    if random.flip() {
+        return (list(random), vec![0xAA; 1600]);
+    }
+    let Listed { header, list } = picture(random);
+    (list, page_for(random, &header))
+}
+
+#[test]
+fn damaged_lists_agree() {
+    let mut random = Random::new(32);
+    let mut tally = Tally::default();
+    for _ in 0..DAMAGED {
+        let (mut list, page) = list_and_page(&mut random);
+        for _ in 0..random.pick(&[1, 1, 1, 2, 4]) {
+            if !list.is_empty() {
+                damage(&mut random, &mut list);
+            }
+        }
+        let (answer, _) = drawn(&list, &page);
+        tally.meet(classes(&list, &page, &answer));
+    }
+    let header_faults = [5, 1, 2, 3, 21].map(|n| format!("refused {n}"));
+    tally.require(header_faults.into(), LEAST);
+    let record_faults = [4, 5, 6, 7, 8, 9, 10, 11].map(|n| format!("refused {n} further on"));
+    tally.require(record_faults.into(), LEAST);
+    tally.require(named(&["exact", "approximate", "disc", "ring"]), LEAST);
+}
+
+/// One pixel, levels to fill the list, and a line that covers half of the pixel.
+#[test]
+fn lists_about_the_greatest_length() {
+    let line = encode_record(&Record::Shape(Shape::Line(Line {
+        exact: true,
+        x0: 0,
+        y0: 0,
+        x1: 1,
+        y1: 0,
+    })));
+    let header = Header {
+        width: 1,
+        height: 1,
+        background: 0,
+    };
+    // A line has an odd number of bytes and a level two, so that a second line makes the list odd.
+    for (lines, expected) in [(1, Ok(100)), (2, Err(12))] {
+        let mut list = encode_header(&header);
+        let last = [line.repeat(lines), vec![0]].concat();
+        while list.len() + last.len() < LONGEST_LIST {
+            list.extend(encode_record(&Record::Setting(Setting::Level(200))));
+        }
+        list.extend(last);
+        assert_eq!(list.len() - LONGEST_LIST, lines - 1);
+        let (answer, page) = drawn(&list, &[9]);
+        let level = answer.map(|_| page[0]).map_err(|refusal| refusal.number);
+        assert_eq!(level, expected);
+    }
+}
+
+/// So many tenths of a fraction.
+fn tenths(whole: &BigFraction, count: u64) -> BigFraction {
+    BigFraction {
+        numerator: whole.numerator.times(&Natural::from(count)),
+        denominator: whole.denominator.times(&Natural::from(10)),
+    }
+}
+
+/// How a byte came about, and whether it lies beyond nine tenths of its bound.
+fn byte_classes(byte: u8, background: u8, touches: &[Touch]) -> Vec<String> {
+    let approximate = touches.iter().filter(|touch| touch.apart.n > 0).count();
+    let count = touches.len().min(6);
+    let class = format!("{count} touches, {} approximate", approximate.min(2));
+    let exact = exact_blend(background, touches);
+    let near = within(byte, &exact, &tenths(&bound(touches), 9));
+    let mut classes = vec![class.clone()];
+    if !near {
+        classes.push(format!("{class}: beyond nine tenths"));
+    }
+    classes
+}
+
+/// Each byte lies within half a level a touch, and 255·s/(4·l) a touch by an approximate line, of
+/// the blend by exact coverage that is never rounded.
+#[test]
+fn every_byte_is_within_the_bound() {
+    let mut random = Random::new(33);
+    let mut tally = Tally::default();
+    for _ in 0..SMALL_PICTURES {
+        let Listed { header, list } = small_picture(&mut random);
+        let width = usize::from(header.width);
+        let mut page = vec![0xAA; page_length(header.width, header.height)];
+        let accepted = check(&list, page.len()).expect("a lawful list");
+        let picture = library::draw_list(&list, &mut page).expect("a lawful list");
+        let mut touched = 0;
+        for (k, &byte) in page.iter().enumerate() {
+            let touches = touches_at(&accepted, (k % width) as u16, (k / width) as u16);
+            let exact = exact_blend(header.background, &touches);
+            assert!(
+                within(byte, &exact, &bound(&touches)),
+                "byte {k}: {list:02x?}"
+            );
+            assert_eq!(byte, byte_after(header.background, &touches));
+            tally.meet(byte_classes(byte, header.background, &touches));
+            touched += touches.len() as u64;
+        }
+        assert_eq!(picture.touched, touched);
+    }
+    let classes = [
+        "0 touches, 0 approximate",
+        "6 touches, 2 approximate",
+        "1 touches, 0 approximate: beyond nine tenths",
+        "1 touches, 1 approximate: beyond nine tenths",
+        "2 touches, 0 approximate: beyond nine tenths",
+        "2 touches, 1 approximate: beyond nine tenths",
+        "2 touches, 2 approximate",
+    ];
+    tally.require(named(&classes), LEAST);
+}
+
+/// From white to black, the rounding and the approximation of a diagonal go the same way.
+#[test]
+fn a_diagonal_reaches_the_bound() {
+    let header = Header {
+        width: 1,
+        height: 1,
+        background: 255,
+    };
+    let line = Line {
+        exact: false,
+        x0: 0,
+        y0: 0,
+        x1: 1,
+        y1: 1,
+    };
+    let mut list = encode_header(&header);
+    list.extend([2, 0]);
+    list.extend(encode_record(&Record::Shape(Shape::Line(line))));
+    list.push(0);
+    let (_, page) = drawn(&list, &[9]);
+    assert_eq!(page, [128]);
+    let accepted = check(&list, 1).expect("a lawful list");
+    let touches = touches_at(&accepted, 0, 0);
+    let exact = exact_blend(255, &touches);
+    assert!(within(128, &exact, &bound(&touches)));
+    assert!(!within(129, &exact, &bound(&touches)));
+    let without_the_half = BigFraction {
+        numerator: Natural::from(255),
+        denominator: Natural::from(4),
+    };
+    assert!(!within(128, &exact, &without_the_half));
+}

@@ -1,0 +1,51 @@
+//! A whole list on a lent page.
+
+use crate::boundary::greystroke_draw_list;
+use crate::list::{accepted, narrow};
+use crate::{ListRefusal, Size};
+
+/// What a list drew: the size of its page, and how many pixels its shapes touched, each counted
+/// once for every shape that touched it.
+#[derive(Clone, Copy, Debug, PartialEq, Eq)]
+pub struct Picture {
+    pub size: Size,
+    pub touched: u64,
+}
+
+/// Fills a page with the list's background and draws every shape of the list in order. Bytes of
+/// the page past its last pixel are left alone.
+///
+/// # Errors
+///
+/// What [`crate::check_list`] says of the list and a page of this length. The page is then as it
+/// was.
+///
+/// ```
+/// use greystroke::{draw_list, ListRefusal, Picture, Refusal, Size};
+///
+/// // Three columns and two rows of level 9, and a disc of radius 1 about the corner (1, 1).
+/// let list = *b"INK\x01\x00\x03\x00\x02\x00\x09\x05\x01\x00\x01\x00\x01\x00";
+/// let mut page = [7; 8];
+/// let size = Size { width: 3, height: 2 };
+/// assert_eq!(draw_list(&mut page, &list), Ok(Picture { size, touched: 4 }));
+/// assert_eq!(page, [132, 132, 9, 132, 132, 9, 7, 7]);
+///
+/// let too_short = ListRefusal { refusal: Refusal::PageTooShort, place: 0 };
+/// assert_eq!(draw_list(&mut page[..5], &list), Err(too_short));
+/// ```
+pub fn draw_list(page: &mut [u8], list: &[u8]) -> Result<Picture, ListRefusal> {
+    // SAFETY: page and list are slices, and the page, being borrowed alone, is apart from the list.
+    let answer =
+        unsafe { greystroke_draw_list(page.as_mut_ptr(), page.len(), list.as_ptr(), list.len()) };
+    accepted(answer.refusal).map_err(|refusal| ListRefusal {
+        refusal,
+        place: answer.place,
+    })?;
+    Ok(Picture {
+        size: Size {
+            width: narrow(answer.w),
+            height: narrow(answer.h),
+        },
+        touched: answer.touched,
+    })
+}
