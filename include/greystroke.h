@@ -6,8 +6,8 @@
  * past W * H are never written. A page or a list is lent as its first byte and its length, and
  * nothing else may write it during the call. No call keeps what it was lent.
  *
- * `refusal` is 0 for none; else its number, every other field is 0 but a `place`, and the page or
- * the list holds what it held:
+ * `refusal` is 0 for none; else its number, and the page or the list holds what it held. After a
+ * refusal every other field is 0, but for the place of the refusal and for what a writer holds:
  *    1  list without the letters INK          8  clip out of order or off the page
  *    2  version other than 1                  9  line whose ends coincide
  *    3  W or H outside 1 to 1,024            10  radius 0 or above 255
