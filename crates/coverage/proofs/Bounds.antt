@@ -24,12 +24,12 @@ module _ (l s r : ℕ) (hs : s ≤ l) (hr : r < 2 * l) where
   pub square-le-rest : t * t ≤ 2 * (s * r)
   square-le-rest = let h : t * t ≤ 2 * s * r = mul-le-mul (omega arith) (omega arith) in omega arith
 
-  -- the lowest row is (2l − r)² where t is positive
-  pub lowest : 0 < t → 8 * (l * s) + t * t ≡ 4 * (s * (r + s)) + (2 * l - r) * (2 * l - r)
+  -- the lowest row is (2l − r)² where t is not negative
+  pub lowest : 2 * l ≤ r + 2 * s → 8 * (l * s) + t * t ≡ 4 * (s * (r + s)) + (2 * l - r) * (2 * l - r)
   lowest h = third-row t (2 * l - r) r l s (omega arith) (omega arith)
 
   pub lower-pos : 0 < s → 4 * (s * (r + s)) < 8 * (l * s) + t * t
-  lower-pos p = ⊎-elim flat (λ h. omega (arith, lowest h, mul-pos {m = 2 * l - r} {n = 2 * l - r} (omega arith) (omega arith))) (eq-zero-or-pos t)
+  lower-pos p = ⊎-elim flat (λ h. omega (arith, lowest (omega arith), mul-pos {m = 2 * l - r} {n = 2 * l - r} (omega arith) (omega arith))) (eq-zero-or-pos t)
     where
       flat : t ≡ 0 → 4 * (s * (r + s)) < 8 * (l * s) + t * t
       flat h = let g : s * (r + s + s) ≤ s * (2 * l) = mul-le-mul-left s (omega arith) in omega (arith, mul-pos p p)

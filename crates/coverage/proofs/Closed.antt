@@ -3,18 +3,18 @@ use mathlib.Core.Path.{_≡_, refl, sym, _∙_, ap, ap₂}
 use mathlib.Core.Logic.{_⊎_, inl, inr, ⊎-elim}
 use mathlib.Core.Bool.{Bool, true, false, cond}
 use Prim.Native.Nat.{ℕ, zero, suc, _+_, _*_, _-_, _/_, _%_, _≤_, _<_}
-use native.Mathlib.Nat.{mul-le-mul, div-add-mod, mod-lt, div-eq-of-lt, mod-eq-of-lt}
+use native.Mathlib.Nat.{mul-le-mul, mul-le-mul-left, div-add-mod, mod-lt, div-eq-of-lt, mod-eq-of-lt}
 use native.Mathlib.Omega.{arith}
 use lib.Dec.{T}
 use lib.IntN.{ℤ, pos, negsuc, subℕ, _+ℤ_, _-ℤ_, +ℤ-comm, -ℤ-+ℤ-cancel, +ℤ-idr}
 use lib.Signed.{leZ}
 use Rattle.numbers.proofs.Order.{lt-or-le}
 use Rattle.numbers.proofs.Integer.{Diff, is-above, is-below, diff-of, diff-pos, diff-sub, diff-add, diff-minus, diff-shift, diff-unique, diff-le, le-diff}
-use Rattle.coverage.specs.Line.{F, levelRow, exactRow, exactWhole, rowOf, restOf, threeRows, excess, flatRows, crossedRows, approxRow}
-use Rattle.coverage.specs.Rows.{cutExcess, exactRows, approxRows, atRow}
+use Rattle.coverage.specs.Line.{F, levelRow, exactRow, exactWhole, approxWhole, rowOf, restOf, threeRows, excess, flatRows, crossedRows, approxRow}
+use Rattle.coverage.specs.Rows.{cutExcess, exactRows, approxRows, rowsOf, wholeOf, riseOf, cornerOf, atRow}
 use Rattle.coverage.specs.declared.line.Rows.{Rows}
 use Rattle.coverage.proofs.Slant.{row-is}
-use Rattle.coverage.proofs.Bounds.{square-le-rest, lower-pos, middle-pos}
+use Rattle.coverage.proofs.Bounds.{square-le-rest, lowest, lower-pos, middle-pos}
 
 -- what the rest of a column is below
 pub rest-lt : (l s i : ℕ) → 0 < l → restOf l s i < 2 * l
@@ -143,12 +143,21 @@ unfolding approxRow
 approx-closed l s i j p h = by-excess l s (restOf l s i) h (rest-lt l s i p) (j -ℤ pos (rowOf l s i))
 
 -- ---- as the code computes them
-pub rows-level : (l s r : ℕ) → s ≡ 0 → exactRows l s r ≡ record { upper = 0; middle = 1; lower = 1 }
-unfolding exactRows
-rows-level l zero r e = refl
-rows-level l (suc s) r e = absurd (omega arith)
+pub whole-level : (l s : ℕ) → s ≡ 0 → exactWhole l s ≡ 2
+unfolding exactWhole
+whole-level l zero e = refl
+whole-level l (suc s) e = absurd (omega arith)
 
-pub rows-slanted : (l s r : ℕ) → 0 < s
+pub whole-slanted : (l s : ℕ) → 0 < s → exactWhole l s ≡ 8 * (l * s)
+unfolding exactWhole
+whole-slanted l zero h = absurd (omega arith)
+whole-slanted l (suc s) h = omega arith
+
+rows-same : {a b c a′ b′ c′ : ℕ} → a ≡ a′ → b ≡ b′ → c ≡ c′
+    → _≡_ {A = Rows} (record { upper = a; middle = b; lower = c }) (record { upper = a′; middle = b′; lower = c′ })
+rows-same e f g = λ i. record { upper = e i; middle = f i; lower = g i }
+
+rows-slanted : (l s r : ℕ) → 0 < s
     → exactRows l s r
     ≡ record {
       upper = cutExcess l s r * cutExcess l s r;
@@ -159,15 +168,55 @@ unfolding exactRows
 rows-slanted l zero r h = absurd (omega arith)
 rows-slanted l (suc s) r h = refl
 
-pub whole-level : (l s : ℕ) → s ≡ 0 → exactWhole l s ≡ 2
-unfolding exactWhole
-whole-level l zero e = refl
-whole-level l (suc s) e = absurd (omega arith)
+pub rise-level : (s r : ℕ) → s ≡ 0 → riseOf true s r ≡ 1
+unfolding riseOf
+rise-level zero r e = refl
+rise-level (suc s) r e = absurd (omega arith)
 
-pub whole-slanted : (l s : ℕ) → 0 < s → exactWhole l s ≡ 8 * (l * s)
-unfolding exactWhole
-whole-slanted l zero h = absurd (omega arith)
-whole-slanted l (suc s) h = omega arith
+pub rise-slanted : (s r : ℕ) → 0 < s → riseOf true s r ≡ 4 * (s * (r + s))
+unfolding riseOf
+rise-slanted zero r h = absurd (omega arith)
+rise-slanted (suc s) r h = refl
+
+-- two rows where t is at most 0
+module _ (l r : ℕ) where
+  pub rise-le : (exact : Bool) (s : ℕ) → r + 2 * s ≤ 2 * l → riseOf exact s r ≤ wholeOf exact l s
+  unfolding riseOf exactWhole approxWhole
+  rise-le true zero h = omega arith
+  rise-le true (suc s) h = let h : suc s * (r + suc s) ≤ suc s * (2 * l) = mul-le-mul-left (suc s) (omega arith) in omega arith
+  rise-le false s h = omega arith
+
+  pub flat-is : (exact : Bool) (s : ℕ) → r + 2 * s ≤ 2 * l
+      → record { upper = 0; middle = riseOf exact s r; lower = wholeOf exact l s - riseOf exact s r } ≡ rowsOf exact l s r
+  unfolding riseOf exactWhole approxWhole exactRows approxRows
+  flat-is true zero h = refl
+  flat-is true (suc s) h =
+      let z : cutExcess l (suc s) r ≡ 0 = omega arith in
+      let square : cutExcess l (suc s) r * cutExcess l (suc s) r ≡ 0 = rw z refl in
+      rows-same (omega (arith, square)) (omega (arith, square)) (omega (arith, square))
+  flat-is false s h = rows-same (omega arith) (omega arith) (omega arith)
+
+-- three rows, or two, where t is not negative
+module _ (l s r : ℕ) (short : s ≤ l) (rest : r < 2 * l) (crossed : 2 * l ≤ r + 2 * s) where
+  some : 0 < s
+  some = omega arith
+
+  pub corners-le : (exact : Bool) → cornerOf exact (cutExcess l s r) + cornerOf exact (2 * l - r) ≤ wholeOf exact l s
+  unfolding approxWhole
+  corners-le true = rw (whole-slanted l s some) (omega (arith, lowest l s r short rest crossed, middle-pos l s r short rest some))
+  corners-le false = omega arith
+
+  pub crossed-is : (exact : Bool)
+      → record {
+        upper = cornerOf exact (cutExcess l s r);
+        middle = wholeOf exact l s - cornerOf exact (cutExcess l s r) - cornerOf exact (2 * l - r);
+        lower = cornerOf exact (2 * l - r);
+      } ≡ rowsOf exact l s r
+  unfolding approxWhole approxRows
+  crossed-is true =
+      let low = lowest l s r short rest crossed in
+      rw (whole-slanted l s some, rows-slanted l s r some) (rows-same refl (omega (arith, low, middle-pos l s r short rest some)) (omega (arith, low)))
+  crossed-is false = rows-same refl (omega arith) (omega arith)
 
 -- row g − b above row q, by g + 1 − b
 module _ (c : Rows) (g b : ℕ) where

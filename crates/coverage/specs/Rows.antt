@@ -1,7 +1,9 @@
 -- The rows of a column in closed form, by the rest r of the column. `proofs/Closed.antt` shows that they are the rows of the two rules;
 -- only inner functions cite them.
+use mathlib.Core.Bool.{Bool, true, false, cond}
 use Prim.Native.Nat.{ℕ, zero, suc, _+_, _*_, _-_}
 use lib.IntN.{ℤ, pos, negsuc}
+use Rattle.coverage.specs.Line.{exactWhole, approxWhole}
 use Rattle.coverage.specs.declared.line.Rows.{Rows}
 
 -- t cut at 0
@@ -26,6 +28,22 @@ approxRows l s r =
       middle = 2 * (r + s) - 2 * cutExcess l s r;
       lower = 4 * l + cutExcess l s r - 2 * (r + s);
     }
+
+-- under one of the rules, and what they add up to
+abbrev pub rowsOf : Bool → ℕ → ℕ → ℕ → Rows
+rowsOf exact l s r = cond exact (exactRows l s r) (approxRows l s r)
+
+abbrev pub wholeOf : Bool → ℕ → ℕ → ℕ
+wholeOf exact l s = cond exact (exactWhole l s) (approxWhole l)
+
+-- the middle row where t is at most 0, and an outer row where it is not
+unfoldable pub riseOf : Bool → ℕ → ℕ → ℕ
+riseOf true zero r = 1
+riseOf true (suc s) r = 4 * (suc s * (r + suc s))
+riseOf false s r = 2 * (r + s)
+
+abbrev pub cornerOf : Bool → ℕ → ℕ
+cornerOf exact t = cond exact (t * t) t
 
 -- the row k above row q
 unfoldable pub atRow : Rows → ℤ → ℕ

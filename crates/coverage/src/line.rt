@@ -2,8 +2,8 @@
 ghost use mathlib.Core.Path.{_≡_};
 ghost use Prim.Native.Nat.{_+_, _*_, _-_, _≤_, _<_};
 ghost use lib.IntN.{subℕ};
-ghost use Rattle.coverage.specs.Line.{exactWhole, approxWhole, rowOf, restOf};
-ghost use Rattle.coverage.specs.Rows.{cutExcess, exactRows, approxRows, atRow};
+ghost use Rattle.coverage.specs.Line.{rowOf, restOf};
+ghost use Rattle.coverage.specs.Rows.{riseOf, cornerOf, rowsOf, wholeOf, atRow};
 ghost use Rattle.coverage.specs.Frame.{Rising, Framed};
 ghost use Rattle.coverage.specs.Coverage.{shareOf};
 ghost use Rattle.numbers.specs.Coordinate.{inRange};
@@ -87,70 +87,71 @@ pub fn crossing_at(l: u64, s: u64, i: u64) -> Crossing
     }
 }
 
-// t where it is positive, else 0.
-fn cut_excess(l: u64, s: u64, r: u64) -> u64
-    requires { ⌜ (l ≤ 8191) × (s ≤ l) × (r < 2 * l) ⌝ }
-    ensures { λ t. ⌜ t ≡ cutExcess l s r ⌝ }
+// What the middle row of a column has whose upper row has nothing.
+fn rise(exact: bool, s: u64, r: u64) -> u64
+    requires { ⌜ (s ≤ 8191) × (r ≤ 16382) ⌝ }
+    ensures { λ n. ⌜ n ≡ riseOf exact s r ⌝ }
 {
-    if 2 * l < r + 2 * s {
-        r + 2 * s - 2 * l
-    } else {
-        0
+    if exact {
+        if s == 0 {
+            return 1;
+        }
+        return 4 * numbers::product(s, r + s);
+    }
+    2 * (r + s)
+}
+
+// What an outer row has that the band covers to the height t at one side of the column.
+fn corner(exact: bool, t: u64) -> u64
+    requires { ⌜ t ≤ 16382 ⌝ }
+    ensures { λ n. ⌜ n ≡ cornerOf exact t ⌝ }
+{
+    if exact { numbers::product(t, t) } else { t }
+}
+
+// The rows of a column that the band crosses in two rows, t at most 0.
+pub fn flat_rows(exact: bool, l: u64, s: u64, r: u64, d: u64) -> Rows
+    requires { ⌜ (l ≤ 8191) × (s ≤ l) × (r < 2 * l) × (r + 2 * s ≤ 2 * l) × (d ≡ wholeOf exact l s) ⌝ }
+    ensures { λ c. ⌜ c ≡ rowsOf exact l s r ⌝ }
+{
+    let n = rise(exact, s, r);
+    Rows {
+        upper: 0,
+        middle: n,
+        lower: d - n,
     }
 }
 
-// The rows of a column under the exact rule, s above 0.
-fn slanted_rows(l: u64, s: u64, r: u64) -> Rows
-    requires { ⌜ (0 < s) × (l ≤ 8191) × (s ≤ l) × (r < 2 * l) ⌝ }
-    ensures { λ c. ⌜ c ≡ exactRows l s r ⌝ }
+// The rows of a column that the band crosses in three rows, or in two with t = 0.
+pub fn crossed_rows(exact: bool, l: u64, s: u64, r: u64, d: u64) -> Rows
+    requires { ⌜ (l ≤ 8191) × (s ≤ l) × (r < 2 * l) × (2 * l ≤ r + 2 * s) × (d ≡ wholeOf exact l s) ⌝ }
+    ensures { λ c. ⌜ c ≡ rowsOf exact l s r ⌝ }
 {
-    let t = cut_excess(l, s, r);
-    let square = numbers::product(t, t);
-    let rise = 4 * numbers::product(s, r + s);
-    let whole = 8 * numbers::product(l, s);
+    let upper = corner(exact, r + 2 * s - 2 * l);
+    let lower = corner(exact, 2 * l - r);
     Rows {
-        upper: square,
-        middle: rise - 2 * square,
-        lower: whole + square - rise,
-    }
-}
-
-// The rows of a column under the approximate rule.
-fn approximate_rows(l: u64, s: u64, r: u64) -> Rows
-    requires { ⌜ (l ≤ 8191) × (s ≤ l) × (r < 2 * l) ⌝ }
-    ensures { λ c. ⌜ c ≡ approxRows l s r ⌝ }
-{
-    let t = cut_excess(l, s, r);
-    let rise = 2 * (r + s);
-    Rows {
-        upper: t,
-        middle: rise - 2 * t,
-        lower: 4 * l + t - rise,
+        upper,
+        middle: d - upper - lower,
+        lower,
     }
 }
 
 // The rows of a column under one of the rules.
-pub fn rows_of(exact: bool, l: u64, s: u64, r: u64) -> Rows
-    requires { ⌜ (l ≤ 8191) × (s ≤ l) × (r < 2 * l) ⌝ }
-    ensures { λ c. ⌜ c ≡ cond exact (exactRows l s r) (approxRows l s r) ⌝ }
+pub fn rows_of(exact: bool, l: u64, s: u64, r: u64, d: u64) -> Rows
+    requires { ⌜ (l ≤ 8191) × (s ≤ l) × (r < 2 * l) × (d ≡ wholeOf exact l s) ⌝ }
+    ensures { λ c. ⌜ c ≡ rowsOf exact l s r ⌝ }
 {
-    if exact {
-        if s == 0 {
-            return Rows {
-                upper: 0,
-                middle: 1,
-                lower: 1,
-            };
-        }
-        return slanted_rows(l, s, r);
+    if r + 2 * s < 2 * l {
+        flat_rows(exact, l, s, r, d)
+    } else {
+        crossed_rows(exact, l, s, r, d)
     }
-    approximate_rows(l, s, r)
 }
 
 // What the rows add up to, the denominator of the coverage.
 pub fn whole_of(exact: bool, l: u64, s: u64) -> u64
     requires { ⌜ (l ≤ 8191) × (s ≤ l) ⌝ }
-    ensures { λ d. ⌜ d ≡ cond exact (exactWhole l s) (approxWhole l) ⌝ }
+    ensures { λ d. ⌜ d ≡ wholeOf exact l s ⌝ }
 {
     if exact {
         if s == 0 {
@@ -206,7 +207,7 @@ pub fn line_share(line: shapes::Line, x: i16, y: i16) -> crate::Share
         return crate::Share { n: 0, d };
     }
     let c = crossing_at(f.l, f.s, a - f.x);
-    let rows = rows_of(line.exact, f.l, f.s, c.r);
+    let rows = rows_of(line.exact, f.l, f.s, c.r, d);
     let g = biased_row(f, either(f.steep, p.x, p.y));
     crate::Share {
         n: row_at(rows, g, 8192 + c.q),

@@ -17,7 +17,7 @@ use Rattle.shapes.specs.declared.Line.{Line}
 use Rattle.page.specs.Page.{Lawful}
 use Rattle.page.specs.declared.View.{View}
 use Rattle.lines.specs.Layout.{alongFrom, alongEnd, byteAt, Laid, raised, lowered, Reachable, At, Advanced}
-use Rattle.lines.specs.declared.Layout.{Layout}
+use Rattle.lines.specs.declared.layout.Layout.{Layout}
 use Rattle.lines.proofs.Column.{raised-byte, lowered-byte}
 use Rattle.lines.proofs.RowPixel.{byte-on-page}
 use Rattle.lines.proofs.Walk.{layout-le, along-most}

@@ -21,8 +21,8 @@ use Rattle.page.specs.Page.{Lawful, Drawn}
 use Rattle.page.specs.declared.View.{View}
 use Rattle.page.proofs.Clip.{Either}
 use Rattle.page.proofs.Paint.{drawn-join, drawn-length}
-use Rattle.lines.specs.Layout.{lineOn, alongFrom, alongEnd, strip, rowAt, byteAt, Laid, shown, spotted, counted, raised, lowered}
-use Rattle.lines.specs.declared.Layout.{Layout}
+use Rattle.lines.specs.Layout.{lineOn, alongFrom, alongEnd, strip, rowAt, byteAt, Laid, shown, spotted, counted, columned, columnCount, raised, lowered}
+use Rattle.lines.specs.declared.layout.Layout.{Layout}
 use Rattle.lines.proofs.Strip.{InColumn, inside, outside, in-column, line-inside}
 use Rattle.lines.proofs.RowPixel.{Pixel, only, spot-drawn}
 
@@ -109,10 +109,7 @@ module _ (c : View) (n : Line) (f : Frame) (lay : Layout) (size p : ℕ) (w : La
 
   pub column-drawn : (ink : ℕ → ℕ → ℕ) (k : ℕ) (l : List ℕ) → c .h * c .w ≤ length l → k ≡ byteAt f lay p G
       → Drawn (c .w) (c .h) ink column l
-      (spotted (shown lay (G - 1)) ink (rows .lower) (lowered lay k - lay .origin)
-      (spotted (shown lay G) ink (rows .middle) (k - lay .origin)
-      (spotted (shown lay (G + 1)) ink (rows .upper) (raised lay k - lay .origin) l)))
-      (counted (shown lay (G + 1)) (rows .upper) + counted (shown lay G) (rows .middle) + counted (shown lay (G - 1)) (rows .lower))
+      (columned lay ink rows k G l) (columnCount lay rows G)
   column-drawn ink k l room e =
       let small : q ≤ f .l = row-le (f .l) (f .s) i (g .short) (omega arith) in
       let up = spot (G + 1) (rows .upper) (raised lay k) l room (ap (raised lay) e ∙ raised-byte f lay (d .falls-is) p G (omega arith) (omega (arith, g .right))) (row-upper rows (G + 1) G refl) in

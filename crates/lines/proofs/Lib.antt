@@ -5,3 +5,4 @@ pub mod Column
 pub mod Dots
 pub mod Advance
 pub mod Walk
+pub mod Steps

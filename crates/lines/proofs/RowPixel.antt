@@ -15,7 +15,7 @@ use Rattle.page.specs.declared.View.{View}
 use Rattle.page.proofs.Clip.{Inside, Outside, in-or-out, clip-in, clip-out}
 use Rattle.page.proofs.Paint.{row-end, drawn-none, drawn-one}
 use Rattle.lines.specs.Layout.{alongFrom, alongEnd, strip, rowAt, byteAt, Laid, shown, spotted, counted}
-use Rattle.lines.specs.declared.Layout.{Layout}
+use Rattle.lines.specs.declared.layout.Layout.{Layout}
 
 -- pixel (x, y) is that of column p and row g
 pub record Pixel (c : View) (f : Frame) (lay : Layout) (p g x y : ℕ) : Type 0 where
@@ -125,7 +125,7 @@ hidden c l s true falls x y lay size p e n x′ y′ w d hy out = go (in-or-out 
     go (inr o) = clip-out (c .x0) p (c .x1) e n x′ y′ o
 
 -- ---- one row of column p, drawn
-both-true : (a b : Bool) → (a && b) ≡ true → (a ≡ true) × (b ≡ true)
+pub both-true : (a b : Bool) → (a && b) ≡ true → (a ≡ true) × (b ≡ true)
 both-true true true e = (refl, refl)
 both-true true false e = absurd (let z : _≡_ {A = ℕ} 0 1 = cc in omega arith)
 both-true false b e = absurd (let z : _≡_ {A = ℕ} 0 1 = cc in omega arith)

@@ -9,7 +9,7 @@ use lib.ListN.{length}
 use Rattle.shapes.specs.declared.Line.{Line}
 use Rattle.shapes.specs.declared.Shape.the-variants.{Line as line}
 use Rattle.coverage.specs.Line.{exactWhole, approxWhole, rowOf, restOf}
-use Rattle.coverage.specs.Rows.{cutExcess, exactRows, approxRows}
+use Rattle.coverage.specs.Rows.{cutExcess, rowsOf, wholeOf}
 use Rattle.coverage.specs.Frame.{Framed}
 use Rattle.coverage.specs.Coverage.{drawnD}
 use Rattle.coverage.specs.declared.line.Frame.{Frame}
@@ -20,18 +20,12 @@ use Rattle.page.specs.Blend.{inkOf, Coverage}
 use Rattle.page.specs.Page.{Lawful, Drawn}
 use Rattle.page.specs.declared.View.{View}
 use Rattle.page.proofs.Paint.{drawn-join, drawn-none}
-use Rattle.lines.specs.Layout.{lineOn, lineInk, alongFrom, alongEnd, strip, byteAt, Laid, shown, spotted, counted, raised, lowered, At}
-use Rattle.lines.specs.declared.Layout.{Layout}
+use Rattle.lines.specs.Layout.{lineOn, lineInk, alongFrom, alongEnd, strip, byteAt, Laid, columned, columnCount, At}
+use Rattle.lines.specs.declared.layout.Layout.{Layout}
 use Rattle.lines.proofs.Strip.{strip-join, strip-none}
 use Rattle.lines.proofs.Column.{column-drawn}
 
 -- ---- the rows of a column are coverages
-
-abbrev pub rowsAt : Bool → ℕ → ℕ → ℕ → Rows
-rowsAt t l s r = cond t (exactRows l s r) (approxRows l s r)
-
-abbrev pub wholeOf : Bool → ℕ → ℕ → ℕ
-wholeOf t l s = cond t (exactWhole l s) (approxWhole l)
 
 whole-most : (t : Bool) (l s : ℕ) → l ≤ 8191 → s ≤ l → wholeOf t l s ≤ 2 ^ 30
 unfolding exactWhole approxWhole
@@ -53,43 +47,31 @@ pub record Covers (c : Rows) (d : ℕ) : Type 0 where
   pub middle : Coverage (c .middle) d
   pub lower : Coverage (c .lower) d
 
-pub rows-cover : (t : Bool) (l s i : ℕ) → 0 < l → s ≤ l → l ≤ 8191 → Covers (rowsAt t l s (restOf l s i)) (wholeOf t l s)
-rows-cover t l s i p h k = fits (filled t)
-  where
-    fits : {c : Rows} → Filled (cutExcess l s (restOf l s i)) (wholeOf t l s) c → Covers c (wholeOf t l s)
-    fits e =
-        let w = whole-fits t l s p h k in
-        record {
-          upper = record { some = w .0; part = omega (arith, e .sum); most = w .1 };
-          middle = record { some = w .0; part = omega (arith, e .sum); most = w .1 };
-          lower = record { some = w .0; part = omega (arith, e .sum); most = w .1 };
-        }
+pub rows-filled : (exact : Bool) (l s i : ℕ) → 0 < l → s ≤ l → Filled (cutExcess l s (restOf l s i)) (wholeOf exact l s) (rowsOf exact l s (restOf l s i))
+rows-filled true l s i p h = exact-filled l s i p h
+rows-filled false l s i p h = approx-filled l s i p h
 
-    filled : (t : Bool) → Filled (cutExcess l s (restOf l s i)) (wholeOf t l s) (rowsAt t l s (restOf l s i))
-    filled true = exact-filled l s i p h
-    filled false = approx-filled l s i p h
+pub rows-cover : (t l s : ℕ) (exact : Bool) (c : Rows) → 0 < l → s ≤ l → l ≤ 8191 → Filled t (wholeOf exact l s) c → Covers c (wholeOf exact l s)
+rows-cover t l s exact c p h k e =
+    let w = whole-fits exact l s p h k in
+    record {
+      upper = record { some = w .0; part = omega (arith, e .sum); most = w .1 };
+      middle = record { some = w .0; part = omega (arith, e .sum); most = w .1 };
+      lower = record { some = w .0; part = omega (arith, e .sum); most = w .1 };
+    }
 
 -- ---- one column more
 module _ (c : View) (n : Line) (f : Frame) (lay : Layout) (size from p k g r level d : ℕ) (rows : Rows) (w : Lawful c size) (fr : Framed n f) (la : Laid c f lay)
     (low : alongFrom c f ≤ from) (order : from ≤ p) (end : p < alongEnd c f) (first : f .x ≤ from + 4096) (last : p + 4096 < f .x + f .l)
-    (at : At f lay p k g r) (rows-is : rows ≡ rowsAt (n .exact) (f .l) (f .s) r) (d-is : d ≡ wholeOf (n .exact) (f .l) (f .s)) where
-  abbrev after : List ℕ → List ℕ
-  after l =
-      spotted (shown lay (g - 1)) (inkOf level d) (rows .lower) (lowered lay k - lay .origin)
-      (spotted (shown lay g) (inkOf level d) (rows .middle) (k - lay .origin)
-      (spotted (shown lay (g + 1)) (inkOf level d) (rows .upper) (raised lay k - lay .origin) l))
-
-  abbrev count : ℕ
-  count = counted (shown lay (g + 1)) (rows .upper) + counted (shown lay g) (rows .middle) + counted (shown lay (g - 1)) (rows .lower)
-
-  one-column : (l : List ℕ) → length l ≡ size → Drawn (c .w) (c .h) (lineInk n level) (strip c f p (p + 1) (lineOn n)) l (after l) count
+    (at : At f lay p k g r) (rows-is : rows ≡ rowsOf (n .exact) (f .l) (f .s) r) (d-is : d ≡ wholeOf (n .exact) (f .l) (f .s)) where
+  one-column : (l : List ℕ) → length l ≡ size → Drawn (c .w) (c .h) (lineInk n level) (strip c f p (p + 1) (lineOn n)) l (columned lay (inkOf level d) rows k g l) (columnCount lay rows g)
   one-column l e =
       rw (rows-is, d-is ∙ whole-drawn fr, at .g-is, at .r-is)
       (column-drawn c n f lay size p w fr la (omega arith) end (omega arith) last (lineInk n level) k l (omega (arith, w .room)) (rw (at .g-is) at (at .k-is)))
 
   pub one-more : (l₀ l l′ : List ℕ) (t t′ : ℕ) → length l ≡ size → Drawn (c .w) (c .h) (lineInk n level) (strip c f from p (lineOn n)) l₀ l t
-      → l′ ≡ after l
-      → t′ ≡ count
+      → l′ ≡ columned lay (inkOf level d) rows k g l
+      → t′ ≡ columnCount lay rows g
       → Drawn (c .w) (c .h) (lineInk n level) (strip c f from (p + 1) (lineOn n)) l₀ l′ (t + t′)
   one-more l₀ l l′ t t′ e before el et =
       rw (el, et) (drawn-join (strip c f from (p + 1) (lineOn n)) (strip-join c f (lineOn n) from p (p + 1) order (omega arith)) before (one-column l e))

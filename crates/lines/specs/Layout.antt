@@ -12,10 +12,11 @@ use Rattle.shapes.specs.declared.Shape.the-variants.{Line as line}
 use Rattle.coverage.specs.Line.{rowOf, restOf}
 use Rattle.coverage.specs.Coverage.{drawnN, drawnD}
 use Rattle.coverage.specs.declared.line.Frame.{Frame}
+use Rattle.coverage.specs.declared.line.Rows.{Rows}
 use Rattle.page.specs.Blend.{inkOf}
 use Rattle.page.specs.Page.{dot, touch, clipped}
 use Rattle.page.specs.declared.View.{View}
-use Rattle.lines.specs.declared.Layout.{Layout}
+use Rattle.lines.specs.declared.layout.Layout.{Layout}
 
 -- the coverage of the page's pixels by a line, and the ink that it is drawn with
 abbrev pub lineOn : Line → ℕ → ℕ → ℕ
@@ -74,6 +75,16 @@ raised lay k = cond (lay .falls) (k - lay .across) (k + lay .across)
 
 abbrev pub lowered : Layout → ℕ → ℕ
 lowered lay k = cond (lay .falls) (k + lay .across) (k - lay .across)
+
+-- the rows of a column that are shown, blended, its middle pixel being byte k in row g; and how many pixels that touches
+abbrev pub columned : Layout → (ℕ → ℕ → ℕ) → Rows → ℕ → ℕ → List ℕ → List ℕ
+columned lay ink c k g l =
+    spotted (shown lay (g - 1)) ink (c .lower) (lowered lay k - lay .origin)
+    (spotted (shown lay g) ink (c .middle) (k - lay .origin)
+    (spotted (shown lay (g + 1)) ink (c .upper) (raised lay k - lay .origin) l))
+
+abbrev pub columnCount : Layout → Rows → ℕ → ℕ
+columnCount lay c g = counted (shown lay (g + 1)) (c .upper) + counted (shown lay g) (c .middle) + counted (shown lay (g - 1)) (c .lower)
 
 -- what a walk may touch from byte k in row g: the bytes of the rows around it that are shown lie on the page
 pub record Reachable (lay : Layout) (k g size : ℕ) : Type 0 where

@@ -1,8 +1,8 @@
 use mathlib.Core.Path.{refl, _∙_}
 use native.Mathlib.Omega.{arith}
 use borrow.Author.Needs.{needs}
-use Rattle.lines.proofs.layout_of.Statement.{statement}
-use Rattle.lines.proofs.layout_of.Tie as tie
+use Rattle.lines.proofs.layout.layout_of.Statement.{statement}
+use Rattle.lines.proofs.layout.layout_of.Tie as tie
 
 either-requires : tie.Need-either-requires
 either-requires c κs = search needs

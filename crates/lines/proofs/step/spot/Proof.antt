@@ -4,8 +4,8 @@ use native.Mathlib.Omega.{arith}
 use Rattle.page.specs.Blend.{inkOf}
 use Rattle.lines.proofs.Dots.{spotted-none, spotted-blend}
 use borrow.Author.Needs.{needs}
-use Rattle.lines.proofs.spot.Statement.{statement}
-use Rattle.lines.proofs.spot.Tie as tie
+use Rattle.lines.proofs.step.spot.Statement.{statement}
+use Rattle.lines.proofs.step.spot.Tie as tie
 
 returns : tie.Need-returns
 returns c =

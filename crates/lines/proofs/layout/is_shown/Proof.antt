@@ -1,6 +1,6 @@
 use borrow.Author.Tests.{le-leb, lt-leb}
-use Rattle.lines.proofs.is_shown.Statement.{statement}
-use Rattle.lines.proofs.is_shown.Tie as tie
+use Rattle.lines.proofs.layout.is_shown.Statement.{statement}
+use Rattle.lines.proofs.layout.is_shown.Tie as tie
 
 returns : tie.Need-returns
 returns c = simp (le-leb _ _ (c .before .if1 .taken))

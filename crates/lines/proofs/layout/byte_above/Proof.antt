@@ -1,6 +1,6 @@
 use borrow.Author.Needs.{needs}
-use Rattle.lines.proofs.byte_above.Statement.{statement}
-use Rattle.lines.proofs.byte_above.Tie as tie
+use Rattle.lines.proofs.layout.byte_above.Statement.{statement}
+use Rattle.lines.proofs.layout.byte_above.Tie as tie
 
 sub-result : tie.Need-sub-result
 sub-result c = search needs

@@ -5,8 +5,8 @@ use lib.ListN.{length}
 use Rattle.page.specs.Blend.{inkOf}
 use Rattle.lines.proofs.Dots.{length-spotted}
 use borrow.Author.Needs.{needs}
-use Rattle.lines.proofs.draw_column.Statement.{statement}
-use Rattle.lines.proofs.draw_column.Tie as tie
+use Rattle.lines.proofs.step.draw_column.Statement.{statement}
+use Rattle.lines.proofs.step.draw_column.Tie as tie
 
 add-is-shown : tie.Need-add-is-shown
 add-is-shown c = search needs

@@ -1,10 +1,10 @@
-use mathlib.Core.Path.{ap}
+use mathlib.Core.Path.{refl, ap}
 use Prim.Native.Nat.{ℕ, _+_}
 use native.Mathlib.Nat.{mul-le-mul}
 use native.Mathlib.Omega.{arith}
 use borrow.Author.Needs.{needs}
-use Rattle.lines.proofs.step_at.Statement.{statement}
-use Rattle.lines.proofs.step_at.Tie as tie
+use Rattle.lines.proofs.step.first_step.Statement.{statement}
+use Rattle.lines.proofs.step.first_step.Tie as tie
 
 add-crossing-at : tie.Need-add-crossing-at
 add-crossing-at c = search needs
@@ -48,15 +48,18 @@ add-t14 c =
     omega (arith, mul-le-mul {n₁ = a .p + 4096} {m₁ = a .lay .along} {n₂ = 5120} {m₂ = 1024} (omega arith) (omega arith), mul-le-mul {n₁ = c .before .before .either .result} {m₁ = c .before .before .before .before .before .args .lay .across} {n₂ = 65535} {m₂ = 1024} (omega arith) (omega arith))
 
 returns : tie.Need-returns
-returns c =
-    record {
-      k-is = rw (c .before .before .either .ensures .0, c .before .before .before .before .before .pre .8);
-      g-is = ap (λ (q : ℕ). 16384 + q) (c .before .before .before .crossing-at .ensures .0);
-      r-is = c .before .before .before .crossing-at .ensures .1;
-    }
+returns c = (
+  record {
+    k-is = rw (c .before .before .either .ensures .0, c .before .before .before .before .before .pre .8);
+    g-is = ap (λ (q : ℕ). 16384 + q) (c .before .before .before .crossing-at .ensures .0);
+    r-is = c .before .before .before .crossing-at .ensures .1;
+  },
+  refl,
+  refl,
+)
 
-pub step-at-spec : {M : Type 1} → statement M
-step-at-spec =
+pub first-step-spec : {M : Type 1} → statement M
+first-step-spec =
     tie.close
     (tie.spec
     add-crossing-at

@@ -1,6 +1,6 @@
 use borrow.Author.Needs.{needs}
-use Rattle.lines.proofs.byte_below.Statement.{statement}
-use Rattle.lines.proofs.byte_below.Tie as tie
+use Rattle.lines.proofs.layout.byte_below.Statement.{statement}
+use Rattle.lines.proofs.layout.byte_below.Tie as tie
 
 add-result : tie.Need-add-result
 add-result c = search needs

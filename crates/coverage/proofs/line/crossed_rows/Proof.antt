@@ -1,0 +1,54 @@
+use native.Mathlib.Omega.{arith}
+use Rattle.coverage.proofs.Closed.{corners-le, crossed-is}
+use borrow.Author.Needs.{needs}
+use Rattle.coverage.proofs.line.crossed_rows.Statement.{statement}
+use Rattle.coverage.proofs.line.crossed_rows.Tie as tie
+
+mul-corner : tie.Need-mul-corner
+mul-corner c = search needs
+
+add-corner : tie.Need-add-corner
+add-corner c = search needs
+
+mul-corner-2 : tie.Need-mul-corner-2
+mul-corner-2 c = search needs
+
+sub-corner : tie.Need-sub-corner
+sub-corner c = search needs
+
+corner-requires : tie.Need-corner-requires
+corner-requires c κs = search needs
+
+mul-corner-3 : tie.Need-mul-corner-3
+mul-corner-3 c = search needs
+
+sub-corner-2 : tie.Need-sub-corner-2
+sub-corner-2 c = search needs
+
+corner-requires-2 : tie.Need-corner-requires-2
+corner-requires-2 c κs = search needs
+
+sub-t10 : tie.Need-sub-t10
+sub-t10 c = let h = corners-le (c .before .before .args .l) (c .before .before .args .s) (c .before .before .args .r) (c .before .before .pre .1) (c .before .before .pre .2) (c .before .before .pre .3) (c .before .before .args .exact) in omega (arith, h, c .before .corner .ensures, c .before .before .pre .4)
+
+sub-t11 : tie.Need-sub-t11
+sub-t11 c = let h = corners-le (c .before .before .args .l) (c .before .before .args .s) (c .before .before .args .r) (c .before .before .pre .1) (c .before .before .pre .2) (c .before .before .pre .3) (c .before .before .args .exact) in omega (arith, h, c .before .corner .ensures, c .corner2 .ensures, c .before .before .pre .4)
+
+returns : tie.Need-returns
+returns c = rw (c .before .corner .ensures, c .corner2 .ensures, c .before .before .pre .4) (crossed-is (c .before .before .args .l) (c .before .before .args .s) (c .before .before .args .r) (c .before .before .pre .1) (c .before .before .pre .2) (c .before .before .pre .3) (c .before .before .args .exact))
+
+pub crossed-rows-spec : {M : Type 1} → statement M
+crossed-rows-spec =
+    tie.close
+    (tie.spec
+    mul-corner
+    add-corner
+    mul-corner-2
+    sub-corner
+    corner-requires
+    mul-corner-3
+    sub-corner-2
+    corner-requires-2
+    sub-t10
+    sub-t11
+    returns)

@@ -1,0 +1,55 @@
+use mathlib.Core.Path.{refl}
+use Prim.Native.Nat.{_+_, _*_}
+use borrow.Author.Tests.{le-leb, lt-leb}
+use borrow.Author.Needs.{needs}
+use Rattle.lines.proofs.step.advanced.Statement.{statement}
+use Rattle.lines.proofs.step.advanced.Tie as tie
+
+mul-whole : tie.Need-mul-whole
+mul-whole c = search needs
+
+mul-rest : tie.Need-mul-rest
+mul-rest c = search needs
+
+add-rest : tie.Need-add-rest
+add-rest c = search needs
+
+add-p : tie.Need-add-p
+add-p c = search needs
+
+add-touched : tie.Need-add-touched
+add-touched c = search needs
+
+byte-above-requires : tie.Need-byte-above-requires
+byte-above-requires c κs = search needs
+
+add-t12 : tie.Need-add-t12
+add-t12 c = search needs
+
+add-t13 : tie.Need-add-t13
+add-t13 c = search needs
+
+returns : tie.Need-returns
+returns c = let e = le-leb (2 * c .before .before .before .before .before .before .before .before .before .args .f .l) (c .before .before .before .before .before .before .before .before .before .args .at .r + 2 * c .before .before .before .before .before .before .before .before .before .args .f .s) (c .before .before .before .if1 .taken) in (record { k-is = rw (e, c .before .before .byte-above .ensures .0); g-is = rw e; r-is = rw e }, refl, refl)
+
+add-t15 : tie.Need-add-t15
+add-t15 c = search needs
+
+returns-2 : tie.Need-returns-2
+returns-2 c = let e = lt-leb (2 * c .before .before .before .before .before .before .before .before .args .f .l) (c .before .before .before .before .before .before .before .before .args .at .r + 2 * c .before .before .before .before .before .before .before .before .args .f .s) (c .before .before .if1 .left) in (record { k-is = rw e; g-is = rw e; r-is = rw e }, refl, refl)
+
+pub advanced-spec : {M : Type 1} → statement M
+advanced-spec =
+    tie.close
+    (tie.spec
+    mul-whole
+    mul-rest
+    add-rest
+    add-p
+    add-touched
+    byte-above-requires
+    add-t12
+    add-t13
+    returns
+    add-t15
+    returns-2)

@@ -1,0 +1,57 @@
+-- One line on one page, and a walk along its columns.
+use mathlib.Core.Path.{_≡_}
+use mathlib.Core.List.{List}
+use Prim.Native.Nat.{ℕ, _+_, _*_, _≤_, _<_}
+use Rattle.coverage.specs.Rows.{wholeOf}
+use Rattle.coverage.specs.Frame.{Framed}
+use Rattle.page.specs.Blend.{Scale}
+use Rattle.page.specs.Page.{Lawful, Drawn}
+use Rattle.lines.specs.Layout.{lineOn, lineInk, alongFrom, alongEnd, strip, Laid, At}
+use Rattle.lines.specs.declared.step.Stroke.{Stroke}
+use Rattle.lines.specs.declared.step.Step.{Step}
+
+-- a stroke that may be drawn on a page of size bytes
+pub record Ready (s : Stroke) (size : ℕ) : Type 0 where
+  pub lawful : Lawful (s .view) size
+  pub framed : Framed (s .line) (s .frame)
+  pub laid : Laid (s .view) (s .frame) (s .layout)
+  pub d-is : s .d ≡ wholeOf (s .line .exact) (s .frame .l) (s .frame .s)
+  pub m-is : Scale (s .d) (s .m)
+
+-- a walk stands at a column of the stroke, or after its last; three pixels a column bound its count
+pub record Standing (s : Stroke) (at : Step) : Type 0 where
+  pub is : At (s .frame) (s .layout) (at .p) (at .k) (at .g) (at .r)
+  pub left : alongFrom (s .view) (s .frame) ≤ at .p
+  pub first : s .frame .x ≤ at .p + 4096
+  pub few : at .touched ≤ 3 * at .p
+
+-- the columns before e end with the clip's and with the line's
+pub record Within (s : Stroke) (e : ℕ) : Type 0 where
+  pub right : e ≤ alongEnd (s .view) (s .frame)
+  pub last : e + 4096 ≤ s .frame .x + s .frame .l
+
+-- a walk stands where the clip keeps all three rows of the column
+pub record Inner (s : Stroke) (at : Step) : Type 0 where
+  pub above-low : s .layout .low < at .g
+  pub below-high : at .g + 1 < s .layout .high
+
+-- a walk that has drawn the columns from p to at has now drawn those from p to another step: the page was l and is m
+abbrev pub Extended : Stroke → Step → Step → List ℕ → List ℕ → Type 0
+Extended s at to l m =
+    (p : ℕ) (l₀ : List ℕ) → p ≤ at .p → alongFrom (s .view) (s .frame) ≤ p → s .frame .x ≤ p + 4096
+    → Drawn (s .view .w) (s .view .h) (lineInk (s .line) (s .level)) (strip (s .view) (s .frame) p (at .p) (lineOn (s .line))) l₀ l (at .touched)
+    → Drawn (s .view .w) (s .view .h) (lineInk (s .line) (s .level)) (strip (s .view) (s .frame) p (to .p) (lineOn (s .line))) l₀ m (to .touched)
+
+-- a walk has drawn one column
+pub record Stepped (s : Stroke) (at to : Step) (l m : List ℕ) : Type 0 where
+  pub p-is : to .p ≡ at .p + 1
+  pub rises : at .g ≤ to .g
+  pub standing : Standing s to
+  pub extended : Extended s at to l m
+
+-- a walk has drawn columns, none from e on
+pub record Walked (s : Stroke) (e : ℕ) (at to : Step) (l m : List ℕ) : Type 0 where
+  pub order : at .p ≤ to .p
+  pub most : to .p ≤ e
+  pub standing : Standing s to
+  pub extended : Extended s at to l m

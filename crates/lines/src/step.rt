@@ -1,0 +1,217 @@
+// One column of a line on a lent page.
+use crate::layout;
+use crate::layout::Layout;
+use coverage::line::Frame;
+use coverage::line::Rows;
+use page::View;
+ghost use mathlib.Core.Bool.{true};
+ghost use mathlib.Core.Path.{_≡_};
+ghost use Prim.Native.Nat.{_+_, _*_, _-_, _^_, _≤_, _<_};
+ghost use lib.ListN.{length};
+ghost use Rattle.page.specs.Blend.{inkOf, Coverage, Scale};
+ghost use Rattle.lines.specs.Layout.{spotted, counted, columned, columnCount, Reachable, At, Advanced};
+ghost use Rattle.lines.specs.Stroke.{Ready, Standing, Within, Inner, Stepped};
+
+// One line on one page: what its columns are drawn with.
+pub struct Stroke {
+    pub view: View,
+    pub line: shapes::Line,
+    pub frame: Frame,
+    pub layout: Layout,
+    pub level: u8,
+    pub d: u64,
+    pub m: u64,
+}
+
+// Where a walk stands: the column p of the page, the byte k and the row g of the column's middle pixel, its rest r, and how many pixels
+// the walk has touched.
+pub struct Step {
+    pub p: usize,
+    pub k: usize,
+    pub g: usize,
+    pub r: u64,
+    pub touched: u64,
+}
+
+// Where a walk that begins at column p stands.
+pub fn first_step(lay: Layout, f: Frame, p: usize) -> Step
+    requires { ⌜ (f .l ≤ 8191) × (f .s ≤ f .l) × (f .x ≤ p + 4096) × (p + 4096 < f .x + f .l) × (p ≤ 1024) × (f .y ≤ 8191) × (lay .along ≤ 1024) × (lay .across ≤ 1024) × (lay .falls ≡ f .falls) ⌝ }
+    ensures { λ at. ⌜ At f lay p (at .k) (at .g) (at .r) × (at .p ≡ p) × (at .touched ≡ 0) ⌝ }
+{
+    let c = coverage::line::crossing_at(f.l, f.s, (p as u64) + 4096 - f.x);
+    let g = 16384 + (c.q as usize);
+    let y = f.y as usize;
+    let row = layout::either(lay.falls, y + 32767 - g, y + g);
+    Step {
+        p,
+        k: (p + 4096) * lay.along + row * lay.across,
+        g,
+        r: c.r,
+        touched: 0,
+    }
+}
+
+// The next column, after one that touched t pixels: one row further where the rest comes to a whole row.
+fn advanced(lay: Layout, f: Frame, at: Step, t: u64) -> Step
+    requires { ⌜ (f .l ≤ 8191) × (f .s ≤ f .l) × (at .r < 2 * f .l) × (lay .across ≤ at .k) × (at .k + lay .across + lay .along < 2 ^ 63) × (at .g ≤ 65535) × (at .p ≤ 1024) × (at .touched ≤ 65535) ⌝ }
+    requires { ⌜ t ≤ 3 ⌝ }
+    ensures { λ to. ⌜ Advanced lay (2 * f .l) (2 * f .s) (at .k) (at .g) (at .r) (to .k) (to .g) (to .r) × (to .p ≡ at .p + 1) × (to .touched ≡ at .touched + t) ⌝ }
+{
+    let whole = 2 * f.l;
+    let rest = at.r + 2 * f.s;
+    let p = at.p + 1;
+    let touched = at.touched + t;
+    if whole <= rest {
+        return Step {
+            p,
+            k: layout::byte_above(lay, at.k) + lay.along,
+            g: at.g + 1,
+            r: rest - whole,
+            touched,
+        };
+    }
+    Step {
+        p,
+        k: at.k + lay.along,
+        g: at.g,
+        r: rest,
+        touched,
+    }
+}
+
+// Blends byte k − origin of a page at coverage n, where it is shown; hands back how many pixels that touched.
+fn spot(
+    page: &mut [u8],
+    show: bool,
+    k: usize,
+    origin: usize,
+    level: u8,
+    n: u64,
+    d: u64,
+    m: u64,
+) -> u64
+    requires { ⌜ (show ≡ true → (origin ≤ k) × (k - origin < length (now page))) ⌝ }
+    requires { ⌜ Coverage n d × Scale d m ⌝ }
+    ensures { λ t. ⌜ (now (page .exit) ≡ spotted show (inkOf level d) n (k - origin) (now (page .entry))) × (t ≡ counted show n) × (t ≤ 1) ⌝ }
+{
+    if show {
+        if n == 0 {
+            return 0;
+        }
+        page::put(page, k - origin, level, n, d, m);
+        return 1;
+    }
+    0
+}
+
+// Draws the rows of one column that the clip keeps; hands back how many pixels they touched.
+fn draw_column(
+    page: &mut [u8],
+    lay: Layout,
+    k: usize,
+    g: usize,
+    rows: Rows,
+    level: u8,
+    d: u64,
+    m: u64,
+) -> u64
+    requires { ⌜ Reachable lay k g (length (now page)) ⌝ }
+    requires { ⌜ Coverage (rows .upper) d × Coverage (rows .middle) d × Coverage (rows .lower) d × Scale d m ⌝ }
+    ensures { λ t. ⌜ now (page .exit) ≡ columned lay (inkOf level d) rows k g (now (page .entry)) ⌝ }
+    ensures { λ t. ⌜ (t ≡ columnCount lay rows g) × (t ≤ 3) ⌝ }
+{
+    let origin = lay.origin;
+    let a = spot(
+        page,
+        layout::is_shown(lay, g + 1),
+        layout::byte_above(lay, k),
+        origin,
+        level,
+        rows.upper,
+        d,
+        m,
+    );
+    let b = spot(
+        page,
+        layout::is_shown(lay, g),
+        k,
+        origin,
+        level,
+        rows.middle,
+        d,
+        m,
+    );
+    let c = spot(
+        page,
+        layout::is_shown(lay, g - 1),
+        layout::byte_below(lay, k),
+        origin,
+        level,
+        rows.lower,
+        d,
+        m,
+    );
+    a + b + c
+}
+
+// Draws the column where a walk stands, under the clip, and goes on to the next.
+pub fn step_clipped(page: &mut [u8], s: Stroke, at: Step) -> Step
+    requires { ⌜ Ready s (length (now page)) × Standing s at × Within s (at .p + 1) ⌝ }
+    ensures { λ to. ⌜ Stepped s at to (now (page .entry)) (now (page .exit)) ⌝ }
+{
+    let f = s.frame;
+    let lay = s.layout;
+    let line = s.line;
+    let rows = coverage::line::rows_of(line.exact, f.l, f.s, at.r, s.d);
+    let t = draw_column(page, lay, at.k, at.g, rows, s.level, s.d, s.m);
+    advanced(lay, f, at, t)
+}
+
+// Draws a column inside the clip that has two rows, and goes on to the next, in the same row.
+fn step_flat(page: &mut [u8], s: Stroke, at: Step) -> Step
+    requires { ⌜ Ready s (length (now page)) × Standing s at × Within s (at .p + 1) × Inner s at ⌝ }
+    requires { ⌜ at .r + 2 * s .frame .s < 2 * s .frame .l ⌝ }
+    ensures { λ to. ⌜ Stepped s at to (now (page .entry)) (now (page .exit)) ⌝ }
+{
+    let f = s.frame;
+    let lay = s.layout;
+    let line = s.line;
+    let rows = coverage::line::flat_rows(line.exact, f.l, f.s, at.r, s.d);
+    let origin = lay.origin;
+    let below = layout::byte_below(lay, at.k);
+    page::put(page, at.k - origin, s.level, rows.middle, s.d, s.m);
+    page::put(page, below - origin, s.level, rows.lower, s.d, s.m);
+    advanced(lay, f, at, 2)
+}
+
+// Draws a column inside the clip that has three rows, or two with t = 0, and goes on to the next, one row further.
+fn step_crossed(page: &mut [u8], s: Stroke, at: Step) -> Step
+    requires { ⌜ Ready s (length (now page)) × Standing s at × Within s (at .p + 1) × Inner s at ⌝ }
+    requires { ⌜ 2 * s .frame .l ≤ at .r + 2 * s .frame .s ⌝ }
+    ensures { λ to. ⌜ Stepped s at to (now (page .entry)) (now (page .exit)) ⌝ }
+{
+    let f = s.frame;
+    let lay = s.layout;
+    let line = s.line;
+    let rows = coverage::line::crossed_rows(line.exact, f.l, f.s, at.r, s.d);
+    let origin = lay.origin;
+    let above = layout::byte_above(lay, at.k);
+    let below = layout::byte_below(lay, at.k);
+    let t = spot(page, true, above, origin, s.level, rows.upper, s.d, s.m);
+    page::put(page, at.k - origin, s.level, rows.middle, s.d, s.m);
+    page::put(page, below - origin, s.level, rows.lower, s.d, s.m);
+    advanced(lay, f, at, t + 2)
+}
+
+// Draws the column where a walk stands, which lies inside the clip, and goes on to the next.
+pub fn step_inside(page: &mut [u8], s: Stroke, at: Step) -> Step
+    requires { ⌜ Ready s (length (now page)) × Standing s at × Within s (at .p + 1) × Inner s at ⌝ }
+    ensures { λ to. ⌜ Stepped s at to (now (page .entry)) (now (page .exit)) ⌝ }
+{
+    let f = s.frame;
+    if at.r + 2 * f.s < 2 * f.l {
+        step_flat(page, s, at)
+    } else {
+        step_crossed(page, s, at)
+    }
+}
