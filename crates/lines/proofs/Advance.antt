@@ -1,8 +1,8 @@
 -- How the row, the rest and the byte of a column come from those of the column before.
 use mathlib.Core.Bool.{Bool, true, false, cond}
-use mathlib.Core.Path.{_≡_, refl, sym, ap, _∙_, subst}
+use mathlib.Core.Path.{_≡_, refl, sym, ap, _∙_}
 use mathlib.Core.Logic.{⊎-elim}
-use Prim.Native.Nat.{ℕ, suc, _+_, _-_, _*_, _/_, _%_, _≤_, _<_}
+use Prim.Native.Nat.{ℕ, _+_, _-_, _*_, _≤_, _<_}
 use native.Mathlib.Nat.{mul-le-mul, mul-le-mul-right}
 use native.Mathlib.Omega.{arith}
 use lib.Arith.{digits-div, digits-mod}
@@ -20,7 +20,7 @@ use Rattle.lines.specs.Layout.{alongFrom, alongEnd, byteAt, Laid, raised
 use Rattle.lines.specs.declared.layout.Layout.{Layout}
 use Rattle.lines.proofs.Column.{raised-byte, lowered-byte}
 use Rattle.lines.proofs.RowPixel.{byte-on-page}
-use Rattle.lines.proofs.Walk.{layout-le, along-most}
+use Rattle.lines.proofs.Columns.{layout-le, along-most}
 
 -- a column whose l + 2·s·i is known
 column-from : (l s i q r : ℕ) → r < 2 * l → l + 2 * s * i ≡ q * (2 * l) + r → (rowOf l s i ≡ q) × (restOf l s i ≡ r)

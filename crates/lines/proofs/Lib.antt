@@ -4,5 +4,6 @@ pub mod RowPixel
 pub mod Column
 pub mod Dots
 pub mod Advance
-pub mod Walk
+pub mod Columns
 pub mod Steps
+pub mod Walk

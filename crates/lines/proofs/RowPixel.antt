@@ -1,16 +1,16 @@
 -- One row of a column on the page: where it lies, and what drawing it does.
 use mathlib.Core.Bool.{Bool, true, false, cond, _&&_}
-use mathlib.Core.Path.{_≡_, refl, sym, ap, ap₂, _∙_, subst}
-use mathlib.Core.Logic.{_⊎_, inl, inr, ⊎-elim}
+use mathlib.Core.Path.{_≡_, refl, ap, _∙_}
+use mathlib.Core.Logic.{_⊎_, inl, inr}
 use mathlib.Core.List.{List}
-use Prim.Native.Nat.{ℕ, suc, _+_, _-_, _*_, _≤_, _<_}
+use Prim.Native.Nat.{ℕ, _+_, _-_, _*_, _≤_, _<_}
 use native.Mathlib.Omega.{arith}
 use lib.Dec.{leb, ltb, eqb}
-use lib.ListN.{length, getD, set}
-use borrow.Author.Tests.{eq-eqb, ne-eqb, le-leb, lt-leb, lt-ltb, le-ltb, leb-true, ltb-true}
-use Rattle.numbers.proofs.Order.{lt-or-le, eq-or-ne}
+use lib.ListN.{length}
+use borrow.Author.Tests.{eq-eqb, ne-eqb, le-leb, lt-ltb, leb-true, ltb-true}
+use Rattle.numbers.proofs.Order.{eq-or-ne}
 use Rattle.coverage.specs.declared.line.Frame.{Frame}
-use Rattle.page.specs.Page.{dot, touch, clipped, painted, touches, Lawful, Drawn}
+use Rattle.page.specs.Page.{clipped, Lawful, Drawn}
 use Rattle.page.specs.declared.View.{View}
 use Rattle.page.proofs.Clip.{Inside, Outside, in-or-out, clip-in, clip-out}
 use Rattle.page.proofs.Paint.{row-end, drawn-none, drawn-one}

@@ -1,96 +1,73 @@
--- A walk along the columns of a line.
-use mathlib.Core.Bool.{Bool, true, false, cond}
-use mathlib.Core.Path.{_≡_, refl, sym, ap, _∙_, subst}
+-- A walk along several columns.
+use mathlib.Core.Bool.{Bool, true, false, cond, _&&_}
+use mathlib.Core.Logic.{⊎-elim}
+use mathlib.Core.Path.{_≡_}
 use mathlib.Core.List.{List}
-use Prim.Native.Nat.{ℕ, zero, suc, _+_, _-_, _*_, _^_, _≤_, _<_}
-use native.Mathlib.Nat.{mul-le-mul, mul-pos}
+use Prim.Native.Nat.{ℕ, _+_, _-_, _≤_, _<_}
 use native.Mathlib.Omega.{arith}
-use lib.ListN.{length}
-use Rattle.shapes.specs.declared.Line.{Line}
-use Rattle.shapes.specs.declared.Shape.the-variants.{Line as line}
-use Rattle.coverage.specs.Line.{exactWhole, approxWhole, rowOf, restOf}
-use Rattle.coverage.specs.Rows.{cutExcess, rowsOf, wholeOf}
-use Rattle.coverage.specs.Frame.{Framed}
-use Rattle.coverage.specs.Coverage.{drawnD}
-use Rattle.coverage.specs.declared.line.Frame.{Frame}
-use Rattle.coverage.specs.declared.line.Rows.{Rows}
-use Rattle.coverage.proofs.Column.{Filled, exact-filled, approx-filled}
-use Rattle.coverage.proofs.Pixel.{whole-drawn}
-use Rattle.page.specs.Blend.{inkOf, Coverage}
-use Rattle.page.specs.Page.{Lawful, Drawn}
-use Rattle.page.specs.declared.View.{View}
-use Rattle.page.proofs.Paint.{drawn-join, drawn-none}
-use Rattle.lines.specs.Layout.{lineOn, lineInk, alongFrom, alongEnd, strip, byteAt, Laid, columned, columnCount, At}
-use Rattle.lines.specs.declared.layout.Layout.{Layout}
-use Rattle.lines.proofs.Strip.{strip-join, strip-none}
-use Rattle.lines.proofs.Column.{column-drawn}
+use lib.Dec.{leb, ltb}
+use borrow.Author.Tests.{le-leb, lt-ltb, leb-true, ltb-true}
+use Rattle.numbers.proofs.Order.{lt-or-le}
+use Rattle.page.specs.Page.{Drawn}
+use Rattle.lines.specs.Layout.{lineOn, lineInk, alongFrom, strip, At}
+use Rattle.lines.specs.Stroke.{Ready, Standing, Within, Stepped, Walked}
+use Rattle.lines.specs.declared.step.Step.{Step}
+use Rattle.lines.specs.declared.step.Stroke.{Stroke}
+use Rattle.lines.proofs.RowPixel.{both-true}
+use Rattle.lines.proofs.Columns.{none-yet}
+use Rattle.lines.proofs.Steps.{reaches}
 
--- ---- the rows of a column are coverages
+module _ (s : Stroke) (e : ℕ) where
+  pub walked-none : (at : Step) (l : List ℕ) → Standing s at → at .p ≤ e → Walked s e at at l l
+  walked-none at l stand h = record { order = omega arith; most = h; standing = stand; extended = λ p l₀ o lo fi d. d }
 
-whole-most : (t : Bool) (l s : ℕ) → l ≤ 8191 → s ≤ l → wholeOf t l s ≤ 2 ^ 30
-unfolding exactWhole approxWhole
-whole-most true l zero h k = omega arith
-whole-most true l (suc s) h k = omega (arith, mul-le-mul {n₁ = l} {m₁ = suc s} {n₂ = 8191} {m₂ = 8191} h (omega arith))
-whole-most false l s h k = omega arith
+  pub walked-step : {at to : Step} {l m : List ℕ} → Stepped s at to l m → at .p < e → Walked s e at to l m
+  walked-step t h = record { order = omega (arith, t .p-is); most = omega (arith, t .p-is); standing = t .standing; extended = t .extended }
 
-whole-some : (t : Bool) (l s : ℕ) → 0 < l → 0 < wholeOf t l s
-unfolding exactWhole approxWhole
-whole-some true l zero h = omega arith
-whole-some true l (suc s) h = mul-pos {m = 8 * l} {n = suc s} (omega arith) (omega arith)
-whole-some false l s h = omega arith
+  pub walked-join : {from at to : Step} {l₀ l m : List ℕ} → Walked s e from at l₀ l → Walked s e at to l m → Walked s e from to l₀ m
+  walked-join a b =
+      record {
+        order = omega (arith, a .order, b .order);
+        most = b .most;
+        standing = b .standing;
+        extended = λ p l₀ o lo fi d. b .extended p l₀ (omega (arith, a .order)) lo fi (a .extended p l₀ o lo fi d);
+      }
 
-pub whole-fits : (t : Bool) (l s : ℕ) → 0 < l → s ≤ l → l ≤ 8191 → (0 < wholeOf t l s) × (wholeOf t l s ≤ 2 ^ 30)
-whole-fits t l s p h k = (whole-some t l s p, whole-most t l s k h)
+  pub within-next : (p : ℕ) → Within s e → p < e → Within s (p + 1)
+  within-next p w h = record { right = omega (arith, w .right); last = omega (arith, w .last) }
 
-pub record Covers (c : Rows) (d : ℕ) : Type 0 where
-  pub upper : Coverage (c .upper) d
-  pub middle : Coverage (c .middle) d
-  pub lower : Coverage (c .lower) d
-
-pub rows-filled : (exact : Bool) (l s i : ℕ) → 0 < l → s ≤ l → Filled (cutExcess l s (restOf l s i)) (wholeOf exact l s) (rowsOf exact l s (restOf l s i))
-rows-filled true l s i p h = exact-filled l s i p h
-rows-filled false l s i p h = approx-filled l s i p h
-
-pub rows-cover : (t l s : ℕ) (exact : Bool) (c : Rows) → 0 < l → s ≤ l → l ≤ 8191 → Filled t (wholeOf exact l s) c → Covers c (wholeOf exact l s)
-rows-cover t l s exact c p h k e =
-    let w = whole-fits exact l s p h k in
-    record {
-      upper = record { some = w .0; part = omega (arith, e .sum); most = w .1 };
-      middle = record { some = w .0; part = omega (arith, e .sum); most = w .1 };
-      lower = record { some = w .0; part = omega (arith, e .sum); most = w .1 };
-    }
-
--- ---- one column more
-module _ (c : View) (n : Line) (f : Frame) (lay : Layout) (size from p k g r level d : ℕ) (rows : Rows) (w : Lawful c size) (fr : Framed n f) (la : Laid c f lay)
-    (low : alongFrom c f ≤ from) (order : from ≤ p) (end : p < alongEnd c f) (first : f .x ≤ from + 4096) (last : p + 4096 < f .x + f .l)
-    (at : At f lay p k g r) (rows-is : rows ≡ rowsOf (n .exact) (f .l) (f .s) r) (d-is : d ≡ wholeOf (n .exact) (f .l) (f .s)) where
-  one-column : (l : List ℕ) → length l ≡ size → Drawn (c .w) (c .h) (lineInk n level) (strip c f p (p + 1) (lineOn n)) l (columned lay (inkOf level d) rows k g l) (columnCount lay rows g)
-  one-column l e =
-      rw (rows-is, d-is ∙ whole-drawn fr, at .g-is, at .r-is)
-      (column-drawn c n f lay size p w fr la (omega arith) end (omega arith) last (lineInk n level) k l (omega (arith, w .room)) (rw (at .g-is) at (at .k-is)))
-
-  pub one-more : (l₀ l l′ : List ℕ) (t t′ : ℕ) → length l ≡ size → Drawn (c .w) (c .h) (lineInk n level) (strip c f from p (lineOn n)) l₀ l t
-      → l′ ≡ columned lay (inkOf level d) rows k g l
-      → t′ ≡ columnCount lay rows g
-      → Drawn (c .w) (c .h) (lineInk n level) (strip c f from (p + 1) (lineOn n)) l₀ l′ (t + t′)
-  one-more l₀ l l′ t t′ e before el et =
-      rw (el, et) (drawn-join (strip c f from (p + 1) (lineOn n)) (strip-join c f (lineOn n) from p (p + 1) order (omega arith)) before (one-column l e))
-
-pub none-yet : (c : View) (n : Line) (f : Frame) (level from : ℕ) (l : List ℕ) → Drawn (c .w) (c .h) (lineInk n level) (strip c f from from (lineOn n)) l l 0
-none-yet c n f level from l = drawn-none (c .w) (c .h) (lineInk n level) (strip c f from from (lineOn n)) l (strip-none c f (lineOn n) from)
-
--- ---- what the first column has
-step-le : (t : Bool) (a b : ℕ) → a ≤ 1024 → b ≤ 1024 → cond t a b ≤ 1024
-step-le true a b h k = h
-step-le false a b h k = k
-
-pub layout-le : (c : View) (f : Frame) (lay : Layout) (size : ℕ) → Lawful c size → Laid c f lay → (lay .along ≤ 1024) × (lay .across ≤ 1024)
-layout-le c f lay size w d =
-    (rw (d .along-is) (step-le (f .steep) (c .w) 1 (w .w-most) (omega arith)), rw (d .across-is) (step-le (f .steep) 1 (c .w) (omega arith) (w .w-most)))
-
-pub along-most : (c : View) (f : Frame) (size p : ℕ) → Lawful c size → p ≤ alongEnd c f → p ≤ 1024
-along-most c f size p w h = by (f .steep) h
+-- a page has its highest row well above row 2, for rows are counted from 16,384
+pub high-least : (s : Stroke) (size : ℕ) → Ready s size → 2 ≤ s .layout .high
+high-least s size r = rw (r .laid .high-is) (go (s .frame .falls) (s .frame .steep))
   where
-    by : (t : Bool) → p ≤ cond t (c .y1) (c .x1) → p ≤ 1024
-    by true h = omega (arith, w .y-most, w .h-most)
-    by false h = omega (arith, w .x-most, w .w-most)
+    go : (t u : Bool) → 2 ≤ cond t (s .frame .y + 12288 - cond u (s .view .x0) (s .view .y0)) (cond u (s .view .x1) (s .view .y1) + 20480 - s .frame .y)
+    go true true = omega (arith, r .lawful .x-order, r .lawful .x-most, r .lawful .w-most)
+    go true false = omega (arith, r .lawful .y-order, r .lawful .y-most, r .lawful .h-most)
+    go false u = omega (arith, r .framed .high)
+
+-- what the test of a walk says
+pub goes : (p e g top : ℕ) → (ltb p e && leb g top) ≡ true → (p < e) × (g ≤ top)
+goes p e g top h = let b = both-true (ltb p e) (leb g top) h in (ltb-true p e (b .0), leb-true g top (b .1))
+
+pub stops : (p e g top : ℕ) → (ltb p e && leb g top) ≡ false → p < e → top < g
+stops p e g top h k = ⊎-elim (λ z. z) (λ z. absurd (let n : _≡_ {A = ℕ} 0 1 = cc (lt-ltb p e k, le-leb g top z) in omega arith)) (lt-or-le top g)
+
+-- a walk from the first column of a stroke that ends before none of them has drawn them all
+pub walked-whole : (s : Stroke) (size e : ℕ) (from to : Step) (l m : List ℕ) → Ready s size → Within s e → from .touched ≡ 0 → Standing s from → Walked s e from to l m
+    → (to .p < e → 65535 < to .g)
+    → Drawn (s .view .w) (s .view .h) (lineInk (s .line) (s .level)) (strip (s .view) (s .frame) (from .p) e (lineOn (s .line))) l m (to .touched)
+walked-whole s size e from to l m ready within zero stand walked past =
+    rw (← ended)
+    (walked .extended (from .p) l (omega arith) (stand .left) (stand .first) (rw zero (none-yet (s .view) (s .line) (s .frame) (s .level) (from .p) l)))
+  where
+    ended : to .p ≡ e
+    ended =
+        ⊎-elim (λ z. absurd (omega (arith, past z, reaches (record { ready = ready; standing = walked .standing; within = within-next s e (to .p) within z }) .row-most)))
+        (λ z. omega (arith, walked .most)) (lt-or-le (to .p) e)
+
+-- where a walk begins
+pub standing-first : (s : Stroke) (at : Step) (p : ℕ) → At (s .frame) (s .layout) p (at .k) (at .g) (at .r) → at .p ≡ p → at .touched ≡ 0
+    → alongFrom (s .view) (s .frame) ≤ p
+    → s .frame .x ≤ p + 4096
+    → Standing s at
+standing-first s at p is p-is zero left first = record { is = rw p-is is; left = omega arith; first = omega arith; few = omega arith }

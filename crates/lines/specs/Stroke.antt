@@ -30,6 +30,12 @@ pub record Within (s : Stroke) (e : ℕ) : Type 0 where
   pub right : e ≤ alongEnd (s .view) (s .frame)
   pub last : e + 4096 ≤ s .frame .x + s .frame .l
 
+-- a walk may draw the column at which it stands, on a page of size bytes
+pub record Drawable (s : Stroke) (at : Step) (size : ℕ) : Type 0 where
+  pub ready : Ready s size
+  pub standing : Standing s at
+  pub within : Within s (at .p + 1)
+
 -- a walk stands where the clip keeps all three rows of the column
 pub record Inner (s : Stroke) (at : Step) : Type 0 where
   pub above-low : s .layout .low < at .g

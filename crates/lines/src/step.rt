@@ -10,7 +10,7 @@ ghost use Prim.Native.Nat.{_+_, _*_, _-_, _^_, _≤_, _<_};
 ghost use lib.ListN.{length};
 ghost use Rattle.page.specs.Blend.{inkOf, Coverage, Scale};
 ghost use Rattle.lines.specs.Layout.{spotted, counted, columned, columnCount, Reachable, At, Advanced};
-ghost use Rattle.lines.specs.Stroke.{Ready, Standing, Within, Inner, Stepped};
+ghost use Rattle.lines.specs.Stroke.{Drawable, Inner, Stepped};
 
 // One line on one page: what its columns are drawn with.
 pub struct Stroke {
@@ -156,7 +156,7 @@ fn draw_column(
 
 // Draws the column where a walk stands, under the clip, and goes on to the next.
 pub fn step_clipped(page: &mut [u8], s: Stroke, at: Step) -> Step
-    requires { ⌜ Ready s (length (now page)) × Standing s at × Within s (at .p + 1) ⌝ }
+    requires { ⌜ Drawable s at (length (now page)) ⌝ }
     ensures { λ to. ⌜ Stepped s at to (now (page .entry)) (now (page .exit)) ⌝ }
 {
     let f = s.frame;
@@ -169,8 +169,7 @@ pub fn step_clipped(page: &mut [u8], s: Stroke, at: Step) -> Step
 
 // Draws a column inside the clip that has two rows, and goes on to the next, in the same row.
 fn step_flat(page: &mut [u8], s: Stroke, at: Step) -> Step
-    requires { ⌜ Ready s (length (now page)) × Standing s at × Within s (at .p + 1) × Inner s at ⌝ }
-    requires { ⌜ at .r + 2 * s .frame .s < 2 * s .frame .l ⌝ }
+    requires { ⌜ Drawable s at (length (now page)) × Inner s at × (at .r + 2 * s .frame .s < 2 * s .frame .l) ⌝ }
     ensures { λ to. ⌜ Stepped s at to (now (page .entry)) (now (page .exit)) ⌝ }
 {
     let f = s.frame;
@@ -186,8 +185,7 @@ fn step_flat(page: &mut [u8], s: Stroke, at: Step) -> Step
 
 // Draws a column inside the clip that has three rows, or two with t = 0, and goes on to the next, one row further.
 fn step_crossed(page: &mut [u8], s: Stroke, at: Step) -> Step
-    requires { ⌜ Ready s (length (now page)) × Standing s at × Within s (at .p + 1) × Inner s at ⌝ }
-    requires { ⌜ 2 * s .frame .l ≤ at .r + 2 * s .frame .s ⌝ }
+    requires { ⌜ Drawable s at (length (now page)) × Inner s at × (2 * s .frame .l ≤ at .r + 2 * s .frame .s) ⌝ }
     ensures { λ to. ⌜ Stepped s at to (now (page .entry)) (now (page .exit)) ⌝ }
 {
     let f = s.frame;
@@ -205,7 +203,7 @@ fn step_crossed(page: &mut [u8], s: Stroke, at: Step) -> Step
 
 // Draws the column where a walk stands, which lies inside the clip, and goes on to the next.
 pub fn step_inside(page: &mut [u8], s: Stroke, at: Step) -> Step
-    requires { ⌜ Ready s (length (now page)) × Standing s at × Within s (at .p + 1) × Inner s at ⌝ }
+    requires { ⌜ Drawable s at (length (now page)) × Inner s at ⌝ }
     ensures { λ to. ⌜ Stepped s at to (now (page .entry)) (now (page .exit)) ⌝ }
 {
     let f = s.frame;

@@ -1,8 +1,8 @@
 use native.Mathlib.Omega.{arith}
 use lib.ListN.{length}
 use Rattle.lines.specs.declared.step.Stroke.{Stroke}
-use Rattle.lines.proofs.Walk.{whole-fits, layout-le, along-most}
-use Rattle.lines.proofs.Steps.{walked-join, walked-whole, standing-first}
+use Rattle.lines.proofs.Columns.{whole-fits, layout-le, along-most}
+use Rattle.lines.proofs.Walk.{walked-join, walked-whole, standing-first}
 use borrow.Author.Needs.{needs}
 use Rattle.lines.proofs.draw_columns.Statement.{statement}
 use Rattle.lines.proofs.draw_columns.Tie as tie
@@ -14,33 +14,61 @@ whole-of-requires : tie.Need-whole-of-requires
 whole-of-requires c κs = search needs
 
 scale-requires : tie.Need-scale-requires
-scale-requires c κs = let f = c .before .before .before .pre .0 .1 in rw (c .whole-of .ensures) (whole-fits (c .before .before .before .args .line .exact) (c .before .before .before .args .f .l) (c .before .before .before .args .f .s) (f .long) (f .short) (omega (arith, f .right)))
+scale-requires c κs =
+    let a = c .before .before .before .args in
+    let f = c .before .before .before .pre .0 .1 in
+    rw (c .whole-of .ensures) (whole-fits (a .line .exact) (a .f .l) (a .f .s) (f .long) (f .short) (omega (arith, f .right)))
 
 first-step-requires : tie.Need-first-step-requires
 first-step-requires c κs =
-    let w = c .before .before .before .before .pre .0 .0 in
-    let fr = c .before .before .before .before .pre .0 .1 in
-    let o = layout-le (c .before .before .before .before .args .view) (c .before .before .before .before .args .f) (c .before .before .layout-of .result) (length (c .before .before .before .before .args .page .now)) w (c .before .before .layout-of .ensures) in
-    (omega (arith, fr .right), fr .short, c .before .before .before .before .pre .1 .3, omega (arith, c .before .before .before .before .pre .1), along-most (c .before .before .before .before .args .view) (c .before .before .before .before .args .f) (length (c .before .before .before .before .args .page .now)) (c .before .before .before .before .args .from) w (omega (arith, c .before .before .before .before .pre .1)), fr .high, o .0, o .1, c .before .before .layout-of .ensures .falls-is)
+    let pre = c .before .before .before .before .pre in
+    let a = c .before .before .before .before .args in
+    let laid = c .before .before .layout-of in
+    let w = pre .0 .0 in
+    let fr = pre .0 .1 in
+    let o = layout-le (a .view) (a .f) (laid .result) (length (a .page .now)) w (laid .ensures) in
+    (omega (arith, fr .right), fr .short, pre .1 .3, omega (arith, pre .1), along-most (a .view) (a .f) (length (a .page .now)) (a .from) w (omega (arith, pre .1)), fr .high, o .0, o .1, laid .ensures .falls-is)
 
 walk-clipped-requires : tie.Need-walk-clipped-requires
-walk-clipped-requires c κs = (record { lawful = c .before .before .before .before .before .before .pre .0 .0; framed = c .before .before .before .before .before .before .pre .0 .1; laid = c .before .before .before .before .layout-of .ensures; d-is = c .before .before .before .whole-of .ensures; m-is = c .before .before .scale .ensures }, standing-first (record { view = c .before .before .before .before .before .before .args .view; line = c .before .before .before .before .before .before .args .line; frame = c .before .before .before .before .before .before .args .f; layout = c .before .before .before .before .layout-of .result; level = c .before .before .before .before .before .before .args .level; d = c .before .before .before .whole-of .result; m = c .before .before .scale .result }) (c .before .first-step .result) (c .before .before .before .before .before .before .args .from) (c .before .first-step .ensures .0) (c .before .first-step .ensures .1) (c .before .first-step .ensures .2) (c .before .before .before .before .before .before .pre .1 .0) (c .before .before .before .before .before .before .pre .1 .3), omega (arith, c .before .first-step .ensures .1, c .before .before .before .before .before .before .pre .1), record { right = c .before .before .before .before .before .before .pre .1 .2; last = c .before .before .before .before .before .before .pre .1 .4 })
+walk-clipped-requires c κs =
+    let pre = c .before .before .before .before .before .before .pre in
+    let laid = c .before .before .before .before .layout-of in
+    let whole = c .before .before .before .whole-of in
+    let scaled = c .before .before .scale in
+    let a = c .before .before .before .before .before .before .args in
+    let start = c .before .first-step in
+    (record { lawful = pre .0 .0; framed = pre .0 .1; laid = laid .ensures; d-is = whole .ensures; m-is = scaled .ensures }, standing-first (record { view = a .view; line = a .line; frame = a .f; layout = laid .result; level = a .level; d = whole .result; m = scaled .result }) (start .result) (a .from) (start .ensures .0) (start .ensures .1) (start .ensures .2) (pre .1 .0) (pre .1 .3), omega (arith, start .ensures .1, pre .1), record { right = pre .1 .2; last = pre .1 .4 })
 
 walk-inside-requires : tie.Need-walk-inside-requires
-walk-inside-requires c κs = let a = c .before .before .before .walk-clipped .ensures in ((rw (c .before .before .before .walk-clipped .kept .0) (record { lawful = c .before .before .before .before .before .before .before .before .before .before .pre .0 .0; framed = c .before .before .before .before .before .before .before .before .before .before .pre .0 .1; laid = c .before .before .before .before .before .before .before .before .layout-of .ensures; d-is = c .before .before .before .before .before .before .before .whole-of .ensures; m-is = c .before .before .before .before .before .before .scale .ensures }), a .0 .standing, a .0 .most, record { right = c .before .before .before .before .before .before .before .before .before .before .pre .1 .2; last = c .before .before .before .before .before .before .before .before .before .before .pre .1 .4 }), a .1)
+walk-inside-requires c κs =
+    let lower = c .before .before .before .walk-clipped in
+    let pre = c .before .before .before .before .before .before .before .before .before .before .pre in
+    let a = lower .ensures in
+    ((rw (lower .kept .0) (record { lawful = pre .0 .0; framed = pre .0 .1; laid = c .before .before .before .before .before .before .before .before .layout-of .ensures; d-is = c .before .before .before .before .before .before .before .whole-of .ensures; m-is = c .before .before .before .before .before .before .scale .ensures }), a .0 .standing, a .0 .most, record { right = pre .1 .2; last = pre .1 .4 }), a .1)
 
 walk-clipped-requires-2 : tie.Need-walk-clipped-requires-2
-walk-clipped-requires-2 c κs = let b = c .before .before .before .walk-inside .ensures in (rw (c .before .before .before .walk-inside .kept .0, c .before .before .before .before .before .before .before .walk-clipped .kept .0) (record { lawful = c .before .before .before .before .before .before .before .before .before .before .before .before .before .before .pre .0 .0; framed = c .before .before .before .before .before .before .before .before .before .before .before .before .before .before .pre .0 .1; laid = c .before .before .before .before .before .before .before .before .before .before .before .before .layout-of .ensures; d-is = c .before .before .before .before .before .before .before .before .before .before .before .whole-of .ensures; m-is = c .before .before .before .before .before .before .before .before .before .before .scale .ensures }), b .standing, b .most, record { right = c .before .before .before .before .before .before .before .before .before .before .before .before .before .before .pre .1 .2; last = c .before .before .before .before .before .before .before .before .before .before .before .before .before .before .pre .1 .4 })
+walk-clipped-requires-2 c κs =
+    let inner = c .before .before .before .walk-inside in
+    let pre = c .before .before .before .before .before .before .before .before .before .before .before .before .before .before .pre in
+    let b = inner .ensures in
+    (rw (inner .kept .0, c .before .before .before .before .before .before .before .walk-clipped .kept .0) (record { lawful = pre .0 .0; framed = pre .0 .1; laid = c .before .before .before .before .before .before .before .before .before .before .before .before .layout-of .ensures; d-is = c .before .before .before .before .before .before .before .before .before .before .before .whole-of .ensures; m-is = c .before .before .before .before .before .before .before .before .before .before .scale .ensures }), b .standing, b .most, record { right = pre .1 .2; last = pre .1 .4 })
 
 same-length : tie.Need-same-length
 same-length c = search needs
 
 returns : tie.Need-returns
 returns c =
-    let s : Stroke = (record { view = c .before .before .before .before .before .before .before .before .before .before .before .before .before .before .before .before .before .args .view; line = c .before .before .before .before .before .before .before .before .before .before .before .before .before .before .before .before .before .args .line; frame = c .before .before .before .before .before .before .before .before .before .before .before .before .before .before .before .before .before .args .f; layout = c .before .before .before .before .before .before .before .before .before .before .before .before .before .before .before .layout-of .result; level = c .before .before .before .before .before .before .before .before .before .before .before .before .before .before .before .before .before .args .level; d = c .before .before .before .before .before .before .before .before .before .before .before .before .before .before .whole-of .result; m = c .before .before .before .before .before .before .before .before .before .before .before .before .before .scale .result }) in
-    let e = c .before .before .before .before .before .before .before .before .before .before .before .before .before .before .before .before .before .args .end in
-    let whole = walked-whole s (length (c .before .before .before .before .before .before .before .before .before .before .before .before .before .before .before .before .before .args .page .now)) e (c .before .before .before .before .before .before .before .before .before .before .before .before .first-step .result) (c .before .before .walk-clipped2 .result) (c .before .before .before .before .before .before .before .before .before .before .before .before .before .before .before .before .before .args .page .now) (c .before .before .walk-clipped2 .last .0) (record { lawful = c .before .before .before .before .before .before .before .before .before .before .before .before .before .before .before .before .before .pre .0 .0; framed = c .before .before .before .before .before .before .before .before .before .before .before .before .before .before .before .before .before .pre .0 .1; laid = c .before .before .before .before .before .before .before .before .before .before .before .before .before .before .before .layout-of .ensures; d-is = c .before .before .before .before .before .before .before .before .before .before .before .before .before .before .whole-of .ensures; m-is = c .before .before .before .before .before .before .before .before .before .before .before .before .before .scale .ensures }) (record { right = c .before .before .before .before .before .before .before .before .before .before .before .before .before .before .before .before .before .pre .1 .2; last = c .before .before .before .before .before .before .before .before .before .before .before .before .before .before .before .before .before .pre .1 .4 }) (c .before .before .before .before .before .before .before .before .before .before .before .before .first-step .ensures .2) (standing-first (record { view = c .before .before .before .before .before .before .before .before .before .before .before .before .before .before .before .before .before .args .view; line = c .before .before .before .before .before .before .before .before .before .before .before .before .before .before .before .before .before .args .line; frame = c .before .before .before .before .before .before .before .before .before .before .before .before .before .before .before .before .before .args .f; layout = c .before .before .before .before .before .before .before .before .before .before .before .before .before .before .before .layout-of .result; level = c .before .before .before .before .before .before .before .before .before .before .before .before .before .before .before .before .before .args .level; d = c .before .before .before .before .before .before .before .before .before .before .before .before .before .before .whole-of .result; m = c .before .before .before .before .before .before .before .before .before .before .before .before .before .scale .result }) (c .before .before .before .before .before .before .before .before .before .before .before .before .first-step .result) (c .before .before .before .before .before .before .before .before .before .before .before .before .before .before .before .before .before .args .from) (c .before .before .before .before .before .before .before .before .before .before .before .before .first-step .ensures .0) (c .before .before .before .before .before .before .before .before .before .before .before .before .first-step .ensures .1) (c .before .before .before .before .before .before .before .before .before .before .before .before .first-step .ensures .2) (c .before .before .before .before .before .before .before .before .before .before .before .before .before .before .before .before .before .pre .1 .0) (c .before .before .before .before .before .before .before .before .before .before .before .before .before .before .before .before .before .pre .1 .3)) (walked-join s e (walked-join s e (c .before .before .before .before .before .before .before .before .before .before .walk-clipped .ensures .0) (c .before .before .before .before .before .before .walk-inside .ensures)) (c .before .before .walk-clipped2 .ensures .0)) (c .before .before .walk-clipped2 .ensures .1) in
-    rw (← c .before .before .before .before .before .before .before .before .before .before .before .before .first-step .ensures .1) whole
+    let a = c .before .before .before .before .before .before .before .before .before .before .before .before .before .before .before .before .before .args in
+    let laid = c .before .before .before .before .before .before .before .before .before .before .before .before .before .before .before .layout-of in
+    let whole = c .before .before .before .before .before .before .before .before .before .before .before .before .before .before .whole-of in
+    let scaled = c .before .before .before .before .before .before .before .before .before .before .before .before .before .scale in
+    let start = c .before .before .before .before .before .before .before .before .before .before .before .before .first-step in
+    let upper = c .before .before .walk-clipped2 in
+    let pre = c .before .before .before .before .before .before .before .before .before .before .before .before .before .before .before .before .before .pre in
+    let s : Stroke = (record { view = a .view; line = a .line; frame = a .f; layout = laid .result; level = a .level; d = whole .result; m = scaled .result }) in
+    let e = a .end in
+    let whole = walked-whole s (length (a .page .now)) e (start .result) (upper .result) (a .page .now) (upper .last .0) (record { lawful = pre .0 .0; framed = pre .0 .1; laid = laid .ensures; d-is = whole .ensures; m-is = scaled .ensures }) (record { right = pre .1 .2; last = pre .1 .4 }) (start .ensures .2) (standing-first (record { view = a .view; line = a .line; frame = a .f; layout = laid .result; level = a .level; d = whole .result; m = scaled .result }) (start .result) (a .from) (start .ensures .0) (start .ensures .1) (start .ensures .2) (pre .1 .0) (pre .1 .3)) (walked-join s e (walked-join s e (c .before .before .before .before .before .before .before .before .before .before .walk-clipped .ensures .0) (c .before .before .before .before .before .before .walk-inside .ensures)) (upper .ensures .0)) (upper .ensures .1) in
+    rw (← start .ensures .1) whole
 
 pub draw-columns-spec : {M : Type 1} → statement M
 draw-columns-spec =

@@ -1,9 +1,9 @@
 use mathlib.Core.Path.{_≡_, refl, sym, _∙_}
-use Prim.Native.Nat.{ℕ, _-_}
+use Prim.Native.Nat.{_-_}
 use native.Mathlib.Omega.{arith}
 use lib.ListN.{length}
 use Rattle.lines.specs.Stroke.{Walked}
-use Rattle.lines.proofs.Steps.{walked-none, walked-step, walked-join, within-next, goes, stops}
+use Rattle.lines.proofs.Walk.{walked-none, walked-step, walked-join, within-next, goes, stops}
 use Rattle.lines.proofs.walk_clipped.Statement.{statement}
 use Rattle.lines.proofs.walk_clipped.Tie as tie
 
@@ -14,25 +14,45 @@ abbrev μ-loop : tie.MeasureT-loop
 μ-loop page₀ s top end from page at = end - at .p
 
 loop-holds : tie.Need-loop-holds Inv-loop μ-loop
-loop-holds c = (refl, walked-none (c .before .args .s) (c .before .args .end) (c .before .args .from) (c .before .args .page .now) (c .before .pre .1) (c .before .pre .2))
+loop-holds c =
+    let a = c .before .args in
+    let pre = c .before .pre in
+    (refl, walked-none (a .s) (a .end) (a .from) (a .page .now) (pre .1) (pre .2))
 
 goes-on-requires : tie.Need-goes-on-requires Inv-loop μ-loop
 goes-on-requires c κs = tt
 
 step-clipped-requires : tie.Need-step-clipped-requires Inv-loop μ-loop
-step-clipped-requires c κs = let h = goes (c .before .before .before .loop .at .p) (c .before .before .before .before .before .args .end) (c .before .before .before .loop .at .g) (c .before .before .before .before .before .args .top) (sym (c .before .before .goes-on .ensures) ∙ c .before .if1 .taken) in (rw (c .before .before .before .loop .inv .0) (c .before .before .before .before .before .pre .0), c .before .before .before .loop .inv .1 .standing, within-next (c .before .before .before .before .before .args .s) (c .before .before .before .before .before .args .end) (c .before .before .before .loop .at .p) (c .before .before .before .before .before .pre .3) (h .0))
+step-clipped-requires c κs =
+    let v = c .before .before .before .loop in
+    let a = c .before .before .before .before .before .args in
+    let pre = c .before .before .before .before .before .pre in
+    let h = goes (v .at .p) (a .end) (v .at .g) (a .top) (sym (c .before .before .goes-on .ensures) ∙ c .before .if1 .taken) in
+    (record { ready = rw (v .inv .0) (pre .0); standing = v .inv .1 .standing; within = within-next (a .s) (a .end) (v .at .p) (pre .3) (h .0) })
 
 loop-less : tie.Need-loop-less Inv-loop μ-loop
-loop-less c = let h = goes (c .before .before .before .before .before .before .loop .at .p) (c .before .before .before .before .before .before .before .before .args .end) (c .before .before .before .before .before .before .loop .at .g) (c .before .before .before .before .before .before .before .before .args .top) (sym (c .before .before .before .before .before .goes-on .ensures) ∙ c .before .before .before .before .if1 .taken) in omega (arith, h .0, c .before .before .step-clipped .ensures .p-is)
+loop-less c =
+    let v = c .before .before .before .before .before .before .loop in
+    let a = c .before .before .before .before .before .before .before .before .args in
+    let h = goes (v .at .p) (a .end) (v .at .g) (a .top) (sym (c .before .before .before .before .before .goes-on .ensures) ∙ c .before .before .before .before .if1 .taken) in
+    omega (arith, h .0, c .before .before .step-clipped .ensures .p-is)
 
 loop-again : tie.Need-loop-again Inv-loop μ-loop
-loop-again c = let h = goes (c .before .before .before .before .before .before .loop .at .p) (c .before .before .before .before .before .before .before .before .args .end) (c .before .before .before .before .before .before .loop .at .g) (c .before .before .before .before .before .before .before .before .args .top) (sym (c .before .before .before .before .before .goes-on .ensures) ∙ c .before .before .before .before .if1 .taken) in (c .before .before .step-clipped .kept .0 ∙ c .before .before .before .before .before .before .loop .inv .0, walked-join (c .before .before .before .before .before .before .before .before .args .s) (c .before .before .before .before .before .before .before .before .args .end) (c .before .before .before .before .before .before .loop .inv .1) (walked-step (c .before .before .before .before .before .before .before .before .args .s) (c .before .before .before .before .before .before .before .before .args .end) (c .before .before .step-clipped .ensures) (h .0)))
+loop-again c =
+    let v = c .before .before .before .before .before .before .loop in
+    let a = c .before .before .before .before .before .before .before .before .args in
+    let step = c .before .before .step-clipped in
+    let h = goes (v .at .p) (a .end) (v .at .g) (a .top) (sym (c .before .before .before .before .before .goes-on .ensures) ∙ c .before .before .before .before .if1 .taken) in
+    (step .kept .0 ∙ v .inv .0, walked-join (a .s) (a .end) (v .inv .1) (walked-step (a .s) (a .end) (step .ensures) (h .0)))
 
 same-length : tie.Need-same-length Inv-loop μ-loop
 same-length c = c .before .before .loop .inv .0
 
 returns : tie.Need-returns Inv-loop μ-loop
-returns c = (c .before .before .loop .inv .1, stops (c .before .before .loop .at .p) (c .before .before .before .before .args .end) (c .before .before .loop .at .g) (c .before .before .before .before .args .top) (sym (c .before .goes-on .ensures) ∙ c .if1 .left))
+returns c =
+    let v = c .before .before .loop in
+    let a = c .before .before .before .before .args in
+    (v .inv .1, stops (v .at .p) (a .end) (v .at .g) (a .top) (sym (c .before .goes-on .ensures) ∙ c .if1 .left))
 
 pub walk-clipped-spec : {M : Type 1} → statement M
 walk-clipped-spec =

@@ -1,36 +1,55 @@
 use mathlib.Core.Path.{_≡_, refl, sym, _∙_}
-use Prim.Native.Nat.{ℕ, _-_, _<_}
+use Prim.Native.Nat.{_-_, _<_}
 use native.Mathlib.Omega.{arith}
 use lib.ListN.{length}
 use Rattle.lines.specs.Stroke.{Walked}
-use Rattle.lines.proofs.Steps.{walked-none, walked-step, walked-join, within-next, high-least, goes}
+use Rattle.lines.proofs.Walk.{walked-none, walked-step, walked-join, within-next, high-least, goes}
 use Rattle.lines.proofs.walk_inside.Statement.{statement}
 use Rattle.lines.proofs.walk_inside.Tie as tie
 
 abbrev Inv-loop : tie.InvT-loop
-Inv-loop page₀ s end top from page at =
-    (length page ≡ length page₀) × Walked s end from at page₀ page × (at .p < end → s .layout .low < at .g)
+Inv-loop page₀ s end top from page at = (length page ≡ length page₀) × Walked s end from at page₀ page × (at .p < end → s .layout .low < at .g)
 
 abbrev μ-loop : tie.MeasureT-loop
 μ-loop page₀ s end top from page at = end - at .p
 
 sub-top : tie.Need-sub-top Inv-loop μ-loop
-sub-top c = high-least (c .before .before .before .args .s) (length (c .before .before .before .args .page .now)) (c .before .before .before .pre .0 .0)
+sub-top c =
+    let a = c .before .before .before .args in
+    omega (arith, high-least (a .s) (length (a .page .now)) (c .before .before .before .pre .0 .0))
 
 loop-holds : tie.Need-loop-holds Inv-loop μ-loop
-loop-holds c = (refl, walked-none (c .before .before .before .args .s) (c .before .before .before .args .end) (c .before .before .before .args .from) (c .before .before .before .args .page .now) (c .before .before .before .pre .0 .1) (c .before .before .before .pre .0 .2), c .before .before .before .pre .1)
+loop-holds c =
+    let a = c .before .before .before .args in
+    let pre = c .before .before .before .pre in
+    (refl, walked-none (a .s) (a .end) (a .from) (a .page .now) (pre .0 .1) (pre .0 .2), pre .1)
 
 goes-on-requires : tie.Need-goes-on-requires Inv-loop μ-loop
 goes-on-requires c κs = tt
 
 step-inside-requires : tie.Need-step-inside-requires Inv-loop μ-loop
-step-inside-requires c κs = let h = goes (c .before .before .before .loop .at .p) (c .before .before .before .before .before .before .before .args .end) (c .before .before .before .loop .at .g) (c .before .before .before .before .before .before .before .args .s .layout .high - 2) (sym (c .before .before .goes-on .ensures) ∙ c .before .if1 .taken) in let two = high-least (c .before .before .before .before .before .before .before .args .s) (length (c .before .before .before .before .before .before .before .args .page .now)) (c .before .before .before .before .before .before .before .pre .0 .0) in (rw (c .before .before .before .loop .inv .0) (c .before .before .before .before .before .before .before .pre .0 .0), c .before .before .before .loop .inv .1 .standing, within-next (c .before .before .before .before .before .before .before .args .s) (c .before .before .before .before .before .before .before .args .end) (c .before .before .before .loop .at .p) (c .before .before .before .before .before .before .before .pre .0 .3) (h .0), record { above-low = c .before .before .before .loop .inv .2 (h .0); below-high = omega (arith, h .1, two) })
+step-inside-requires c κs =
+    let v = c .before .before .before .loop in
+    let a = c .before .before .before .before .before .before .before .args in
+    let pre = c .before .before .before .before .before .before .before .pre in
+    let h = goes (v .at .p) (a .end) (v .at .g) _ (sym (c .before .before .goes-on .ensures) ∙ c .before .if1 .taken) in
+    let two = high-least (a .s) (length (a .page .now)) (pre .0 .0) in
+    (record { ready = rw (v .inv .0) (pre .0 .0); standing = v .inv .1 .standing; within = within-next (a .s) (a .end) (v .at .p) (pre .0 .3) (h .0) }, record { above-low = v .inv .2 (h .0); below-high = omega (arith, h .1, two) })
 
 loop-less : tie.Need-loop-less Inv-loop μ-loop
-loop-less c = let h = goes (c .before .before .before .before .before .before .loop .at .p) (c .before .before .before .before .before .before .before .before .before .before .args .end) (c .before .before .before .before .before .before .loop .at .g) (c .before .before .before .before .before .before .before .before .before .before .args .s .layout .high - 2) (sym (c .before .before .before .before .before .goes-on .ensures) ∙ c .before .before .before .before .if1 .taken) in omega (arith, h .0, c .before .before .step-inside .ensures .p-is)
+loop-less c =
+    let v = c .before .before .before .before .before .before .loop in
+    let h = goes (v .at .p) (c .before .before .before .before .before .before .before .before .before .before .args .end) (v .at .g) _ (sym (c .before .before .before .before .before .goes-on .ensures) ∙ c .before .before .before .before .if1 .taken) in
+    omega (arith, h .0, c .before .before .step-inside .ensures .p-is)
 
 loop-again : tie.Need-loop-again Inv-loop μ-loop
-loop-again c = let h = goes (c .before .before .before .before .before .before .loop .at .p) (c .before .before .before .before .before .before .before .before .before .before .args .end) (c .before .before .before .before .before .before .loop .at .g) (c .before .before .before .before .before .before .before .before .before .before .args .s .layout .high - 2) (sym (c .before .before .before .before .before .goes-on .ensures) ∙ c .before .before .before .before .if1 .taken) in let t = c .before .before .step-inside .ensures in (c .before .before .step-inside .kept .0 ∙ c .before .before .before .before .before .before .loop .inv .0, walked-join (c .before .before .before .before .before .before .before .before .before .before .args .s) (c .before .before .before .before .before .before .before .before .before .before .args .end) (c .before .before .before .before .before .before .loop .inv .1) (walked-step (c .before .before .before .before .before .before .before .before .before .before .args .s) (c .before .before .before .before .before .before .before .before .before .before .args .end) t (h .0)), λ z. omega (arith, c .before .before .before .before .before .before .loop .inv .2 (h .0), t .rises))
+loop-again c =
+    let v = c .before .before .before .before .before .before .loop in
+    let a = c .before .before .before .before .before .before .before .before .before .before .args in
+    let step = c .before .before .step-inside in
+    let h = goes (v .at .p) (a .end) (v .at .g) _ (sym (c .before .before .before .before .before .goes-on .ensures) ∙ c .before .before .before .before .if1 .taken) in
+    let t = step .ensures in
+    (step .kept .0 ∙ v .inv .0, walked-join (a .s) (a .end) (v .inv .1) (walked-step (a .s) (a .end) t (h .0)), λ z. omega (arith, v .inv .2 (h .0), t .rises))
 
 same-length : tie.Need-same-length Inv-loop μ-loop
 same-length c = c .before .before .loop .inv .0

@@ -29,13 +29,24 @@ corner-requires-2 : tie.Need-corner-requires-2
 corner-requires-2 c κs = search needs
 
 sub-t10 : tie.Need-sub-t10
-sub-t10 c = let h = corners-le (c .before .before .args .l) (c .before .before .args .s) (c .before .before .args .r) (c .before .before .pre .1) (c .before .before .pre .2) (c .before .before .pre .3) (c .before .before .args .exact) in omega (arith, h, c .before .corner .ensures, c .before .before .pre .4)
+sub-t10 c =
+    let a = c .before .before .args in
+    let pre = c .before .before .pre in
+    let h = corners-le (a .l) (a .s) (a .r) (pre .1) (pre .2) (pre .3) (a .exact) in
+    omega (arith, h, c .before .corner .ensures, pre .4)
 
 sub-t11 : tie.Need-sub-t11
-sub-t11 c = let h = corners-le (c .before .before .args .l) (c .before .before .args .s) (c .before .before .args .r) (c .before .before .pre .1) (c .before .before .pre .2) (c .before .before .pre .3) (c .before .before .args .exact) in omega (arith, h, c .before .corner .ensures, c .corner2 .ensures, c .before .before .pre .4)
+sub-t11 c =
+    let a = c .before .before .args in
+    let pre = c .before .before .pre in
+    let h = corners-le (a .l) (a .s) (a .r) (pre .1) (pre .2) (pre .3) (a .exact) in
+    omega (arith, h, c .before .corner .ensures, c .corner2 .ensures, pre .4)
 
 returns : tie.Need-returns
-returns c = rw (c .before .corner .ensures, c .corner2 .ensures, c .before .before .pre .4) (crossed-is (c .before .before .args .l) (c .before .before .args .s) (c .before .before .args .r) (c .before .before .pre .1) (c .before .before .pre .2) (c .before .before .pre .3) (c .before .before .args .exact))
+returns c =
+    let pre = c .before .before .pre in
+    let a = c .before .before .args in
+    rw (c .before .corner .ensures, c .corner2 .ensures, pre .4) (crossed-is (a .l) (a .s) (a .r) (pre .1) (pre .2) (pre .3) (a .exact))
 
 pub crossed-rows-spec : {M : Type 1} → statement M
 crossed-rows-spec =

@@ -30,13 +30,19 @@ add-t13 : tie.Need-add-t13
 add-t13 c = search needs
 
 returns : tie.Need-returns
-returns c = let e = le-leb (2 * c .before .before .before .before .before .before .before .before .before .args .f .l) (c .before .before .before .before .before .before .before .before .before .args .at .r + 2 * c .before .before .before .before .before .before .before .before .before .args .f .s) (c .before .before .before .if1 .taken) in (record { k-is = rw (e, c .before .before .byte-above .ensures .0); g-is = rw e; r-is = rw e }, refl, refl)
+returns c =
+    let a = c .before .before .before .before .before .before .before .before .before .args in
+    let e = le-leb (2 * a .f .l) (a .at .r + 2 * a .f .s) (c .before .before .before .if1 .taken) in
+    (record { k-is = rw (e, c .before .before .byte-above .ensures .0); g-is = rw e; r-is = rw e }, refl, refl)
 
 add-t15 : tie.Need-add-t15
 add-t15 c = search needs
 
 returns-2 : tie.Need-returns-2
-returns-2 c = let e = lt-leb (2 * c .before .before .before .before .before .before .before .before .args .f .l) (c .before .before .before .before .before .before .before .before .args .at .r + 2 * c .before .before .before .before .before .before .before .before .args .f .s) (c .before .before .if1 .left) in (record { k-is = rw e; g-is = rw e; r-is = rw e }, refl, refl)
+returns-2 c =
+    let a = c .before .before .before .before .before .before .before .before .args in
+    let e = lt-leb (2 * a .f .l) (a .at .r + 2 * a .f .s) (c .before .before .if1 .left) in
+    (record { k-is = rw e; g-is = rw e; r-is = rw e }, refl, refl)
 
 pub advanced-spec : {M : Type 1} → statement M
 advanced-spec =

@@ -1,5 +1,4 @@
 use native.Mathlib.Omega.{arith}
-use lib.ListN.{length}
 use Rattle.lines.proofs.Steps.{advances}
 use borrow.Author.Needs.{needs}
 use Rattle.lines.proofs.step.step_inside.Statement.{statement}
@@ -9,7 +8,9 @@ mul-if1 : tie.Need-mul-if1
 mul-if1 c = search needs
 
 add-if1 : tie.Need-add-if1
-add-if1 c = let a = advances (c .before .before .before .before .args .s) (length (c .before .before .before .before .args .page .now)) (c .before .before .before .before .args .at) (c .before .before .before .before .pre .0) (c .before .before .before .before .pre .1) (c .before .before .before .before .pre .2) in omega (arith, a .0, a .1, a .2)
+add-if1 c =
+    let fit = advances (c .before .before .before .before .pre .0) in
+    omega (arith, fit .0, fit .1, fit .2)
 
 mul-if1-2 : tie.Need-mul-if1-2
 mul-if1-2 c = search needs
