@@ -33,6 +33,7 @@ fn coverage_answer(answer: coverage::Answer) -> CoverageAnswer
     }
 }
 
+// Every query asks the library so.
 fn query(shape: Shape, x: i16, y: i16) -> CoverageAnswer
     ensures { λ r. ⌜ r ≡ answered (queried shape x y) ⌝ }
 {

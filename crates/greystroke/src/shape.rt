@@ -32,6 +32,7 @@ fn draw_answer(outcome: draw::Outcome) -> DrawAnswer
     }
 }
 
+// Every shape is drawn so.
 fn draw(
     page: &mut [u8],
     w: u16,

@@ -56,6 +56,7 @@ pub extern "C" fn greystroke_write_header(
     write_answer(lists::write::write_header(list, place, w, h, header))
 }
 
+// Every record is written so.
 fn write(list: &mut [u8], place: usize, w: u16, h: u16, rec: Record) -> WriteAnswer
     ensures { λ r. ⌜ r ≡ writeAnswer (recordWritten (now (list .entry)) place w h rec) ⌝ }
     ensures { λ r. ⌜ now (list .exit) ≡ recordList (now (list .entry)) place w h rec ⌝ }
