@@ -16,6 +16,12 @@ pub struct DrawAnswer {
     pub touched: u64,
 }
 
+fn clip_of(x0: u16, y0: u16, x1: u16, y1: u16) -> Clip
+    ensures { λ r. ⌜ r ≡ clipOf x0 y0 x1 y1 ⌝ }
+{
+    Clip { x0, y0, x1, y1 }
+}
+
 // The library's answer in the form that C takes.
 fn draw_answer(outcome: draw::Outcome) -> DrawAnswer
     ensures { λ r. ⌜ r ≡ drawn outcome ⌝ }
@@ -33,26 +39,10 @@ fn draw_answer(outcome: draw::Outcome) -> DrawAnswer
 }
 
 // Every shape is drawn so.
-fn draw(
-    page: &mut [u8],
-    w: u16,
-    h: u16,
-    left: u16,
-    top: u16,
-    right: u16,
-    bottom: u16,
-    level: u8,
-    shape: Shape,
-) -> DrawAnswer
-    ensures { λ r. ⌜ r ≡ drawn (outcome w h (length (now (page .entry))) (clipOf left top right bottom) shape) ⌝ }
-    ensures { λ r. ⌜ now (page .exit) ≡ pageOf w h (clipOf left top right bottom) level shape (now (page .entry)) ⌝ }
+fn draw(page: &mut [u8], w: u16, h: u16, clip: Clip, level: u8, shape: Shape) -> DrawAnswer
+    ensures { λ r. ⌜ r ≡ drawn (outcome w h (length (now (page .entry))) clip shape) ⌝ }
+    ensures { λ r. ⌜ now (page .exit) ≡ pageOf w h clip level shape (now (page .entry)) ⌝ }
 {
-    let clip = Clip {
-        x0: left,
-        y0: top,
-        x1: right,
-        y1: bottom,
-    };
     draw_answer(draw::draw_shape(page, w, h, clip, level, shape))
 }
 
@@ -76,6 +66,7 @@ pub extern "C" fn greystroke_draw_line(
     ensures { λ r. ⌜ r ≡ drawn (outcome w h (length (now (page .entry))) (clipOf left top right bottom) (lineOf exact x0 y0 x1 y1)) ⌝ }
     ensures { λ r. ⌜ now (page .exit) ≡ pageOf w h (clipOf left top right bottom) level (lineOf exact x0 y0 x1 y1) (now (page .entry)) ⌝ }
 {
+    let clip = clip_of(left, top, right, bottom);
     let line = Line {
         exact,
         x0,
@@ -83,17 +74,7 @@ pub extern "C" fn greystroke_draw_line(
         x1,
         y1,
     };
-    draw(
-        page,
-        w,
-        h,
-        left,
-        top,
-        right,
-        bottom,
-        level,
-        Shape::Line(line),
-    )
+    draw(page, w, h, clip, level, Shape::Line(line))
 }
 
 // Draws a disc inside a clip.
@@ -114,22 +95,13 @@ pub extern "C" fn greystroke_draw_disc(
     ensures { λ r. ⌜ r ≡ drawn (outcome w h (length (now (page .entry))) (clipOf left top right bottom) (discOf cx cy radius)) ⌝ }
     ensures { λ r. ⌜ now (page .exit) ≡ pageOf w h (clipOf left top right bottom) level (discOf cx cy radius) (now (page .entry)) ⌝ }
 {
+    let clip = clip_of(left, top, right, bottom);
     let disc = Disc {
         x: cx,
         y: cy,
         radius,
     };
-    draw(
-        page,
-        w,
-        h,
-        left,
-        top,
-        right,
-        bottom,
-        level,
-        Shape::Disc(disc),
-    )
+    draw(page, w, h, clip, level, Shape::Disc(disc))
 }
 
 // Draws a ring inside a clip.
@@ -151,21 +123,12 @@ pub extern "C" fn greystroke_draw_ring(
     ensures { λ r. ⌜ r ≡ drawn (outcome w h (length (now (page .entry))) (clipOf left top right bottom) (ringOf cx cy radius width)) ⌝ }
     ensures { λ r. ⌜ now (page .exit) ≡ pageOf w h (clipOf left top right bottom) level (ringOf cx cy radius width) (now (page .entry)) ⌝ }
 {
+    let clip = clip_of(left, top, right, bottom);
     let ring = Ring {
         x: cx,
         y: cy,
         radius,
         width,
     };
-    draw(
-        page,
-        w,
-        h,
-        left,
-        top,
-        right,
-        bottom,
-        level,
-        Shape::Ring(ring),
-    )
+    draw(page, w, h, clip, level, Shape::Ring(ring))
 }

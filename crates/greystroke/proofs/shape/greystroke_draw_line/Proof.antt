@@ -3,6 +3,9 @@ use borrow.Author.Needs.{needs}
 use Rattle.greystroke.proofs.shape.greystroke_draw_line.Statement.{statement}
 use Rattle.greystroke.proofs.shape.greystroke_draw_line.Tie as tie
 
+clip-of-requires : tie.Need-clip-of-requires
+clip-of-requires c κs = search needs
+
 draw-requires : tie.Need-draw-requires
 draw-requires c κs = search needs
 
@@ -11,8 +14,8 @@ same-length c = search needs
 
 returns : tie.Need-returns
 returns c =
-    let fits = c .before .before .before .before .before .fits in
-    rw (toZ-ofZ (fits .x0), toZ-ofZ (fits .y0), toZ-ofZ (fits .x1), toZ-ofZ (fits .y1)) at (c .before .before .draw .ensures)
+    let fits = c .before .before .before .before .before .before .fits in
+    rw (c .before .before .before .before .clip-of .ensures, toZ-ofZ (fits .x0), toZ-ofZ (fits .y0), toZ-ofZ (fits .x1), toZ-ofZ (fits .y1)) at (c .before .before .draw .ensures)
 
 pub greystroke-draw-line-spec : {M : Type 1} → statement M
-greystroke-draw-line-spec = tie.close (tie.spec draw-requires same-length returns)
+greystroke-draw-line-spec = tie.close (tie.spec clip-of-requires draw-requires same-length returns)
