@@ -3,8 +3,9 @@
  * Every call is proved in Rattle to meet the rules; this header is not checked against it.
  *
  * A page is W by H bytes, pixel (x, y) at byte y * W + x; a lent page may be longer, and the bytes
- * past W * H are never written. A page or a list is lent as its first byte and its length, and
- * nothing else may write it during the call. No call keeps what it was lent.
+ * past W * H are never written. A page or a list is lent as its first byte and its length; nothing
+ * else may write it during the call, and a page and a list may not overlap. No call keeps what it
+ * was lent.
  *
  * `refusal` is 0 for none; else its number, and the page or the list holds what it held. After a
  * refusal every other field is 0, but for the place of the refusal and for what a writer holds:
@@ -29,8 +30,9 @@ extern "C" {
 
 /* ---- a whole list ---- */
 
-/* W, H and how many touches were made, summed over all pixels; or the refusal and its place: the
- * first byte of the record in which it lies, 0 for the header. */
+/* W, H and how many touches were made, summed over all pixels; or the refusal and its place: 0 for
+ * the header, 12 and 21; the record's first byte; the list's length where the end is missing; the
+ * first surplus byte for 6. */
 struct greystroke_list_answer {
     uint64_t refusal;
     size_t place;

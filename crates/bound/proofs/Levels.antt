@@ -40,10 +40,6 @@ levels =
       reach = span-enough;
     }
 
-pub byte-after : (u : ℕ) (ts : List Touch) → u ≤ 255 → AllSound ts → byteAfter u ts ≤ 255
-unfolding byteAfter
-byte-after u ts hu s = close level blendBy half span levels u ts hu s .0
-
 -- whatever touches a pixel, its byte is within the bound of its exact blend
 pub close-to-exact : (u : ℕ) (ts : List Touch) → u ≤ 255 → AllSound ts → Within (whole (byteAfter u ts)) (exactAfter (whole u) ts) (boundOf ts)
 unfolding byteAfter exactAfter boundOf

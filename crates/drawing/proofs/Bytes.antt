@@ -28,7 +28,7 @@ use Rattle.bound.proofs.Levels.{close-to-exact, exact-den, bound-den}
 use Rattle.draw.specs.Touch.{touched}
 use Rattle.draw.proofs.Faults.{view-lawful}
 use Rattle.drawing.specs.Drawing.{Drawing, start, drawings, touchOf, touchesAt}
-use Rattle.drawing.specs.Page.{drawnPage, pixelsCount, shapesCount}
+use Rattle.drawing.specs.Page.{drawnPage, shapesCount}
 use Rattle.drawing.specs.Walk.{recordsIn, listRecords, listDrawings, Drawable, painted, AllLawful}
 use Rattle.drawing.specs.Claim.{answerOf, pageOf, Near, Bounded, Counted}
 use Rattle.drawing.specs.declared.Answer.{Answer}

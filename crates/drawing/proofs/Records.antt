@@ -7,8 +7,7 @@ use native.Mathlib.Omega.{arith}
 use borrow.Author.Tests.{le-leb}
 use lib.ListN.{length, getD, take, drop, length-drop}
 use lib.Seq.{take-all, drop-drop, getD-drop}
-use Rattle.shapes.specs.Limits.{offPage, sizeFault, clipFault, shapeFault, recordFault}
-use Rattle.shapes.specs.declared.Clip.{Clip}
+use Rattle.shapes.specs.Limits.{offPage, clipFault, shapeFault, recordFault}
 use Rattle.shapes.specs.declared.Shape.{Shape}
 use Rattle.shapes.specs.declared.Setting.the-variants.{Clip as clip, Level as level}
 use Rattle.shapes.specs.declared.Record.{Record}
@@ -16,12 +15,10 @@ use Rattle.shapes.specs.declared.Record.the-variants.{End as end, Setting as se
 use Rattle.coverage.specs.Coverage.{drawnD}
 use Rattle.page.specs.Blend.{inkOf}
 use Rattle.page.specs.Page.{inView, Lawful, Drawn}
-use Rattle.page.proofs.Over.{length-over}
 use Rattle.page.proofs.Paint.{drawn-count}
 use Rattle.lists.specs.Format.{headerSize, kindSize, kindAt, sizeAt, decoded, recordAt, Whole}
 use Rattle.lists.proofs.Faults.{Readable}
 use Rattle.lists.proofs.Accepted.{Holds, holds, holds-readable, holds-end, Next, holds-next}
-use Rattle.draw.specs.Touch.{pageAfter}
 use Rattle.draw.specs.Draw.{shapeOn, viewOf}
 use Rattle.draw.proofs.Faults.{view-lawful}
 use Rattle.draw.proofs.Touches.{page-touched, count-touched}

@@ -1,11 +1,10 @@
 -- One shape upon the other: the page, byte by byte, and the touches, pixel by pixel.
-use mathlib.Core.Path.{_≡_, refl, sym, _∙_, ap, ap₂}
+use mathlib.Core.Path.{_≡_, refl, sym, _∙_, ap}
 use mathlib.Core.Bool.{Bool, true, false, cond}
 use mathlib.Core.List.{List, [], _∷_, _++_}
-use Prim.Native.Nat.{ℕ, _+_, _*_, _%_, _/_, _≤_, _<_}
+use Prim.Native.Nat.{ℕ, _+_, _%_, _/_}
 use native.Mathlib.Omega.{arith}
 use lib.ListN.{length, getD}
-use Rattle.numbers.specs.Sum.{sumTo}
 use Rattle.numbers.proofs.Sum.{sum-ext, sum-add, sum-zero}
 use Rattle.page.specs.Blend.{blend}
 use Rattle.page.specs.Page.{over}

@@ -1,10 +1,14 @@
 -- The answers of the library in the form that C takes: a refusal is its number, and 0 stands for none.
+use mathlib.Core.Bool.{Bool}
+use Prim.Native.Nat.{ℕ}
+use lib.IntN.{ℤ}
 use Rattle.coverage.specs.declared.Answer.{Answer}
 use Rattle.coverage.specs.declared.Answer.the-variants.{Covered, Refused}
 use Rattle.shapes.specs.declared.Clip.{Clip}
+use Rattle.shapes.specs.declared.Shape.{Shape}
+use Rattle.shapes.specs.declared.Shape.the-variants.{Line, Disc, Ring}
 use Rattle.draw.specs.declared.Outcome.{Outcome}
 use Rattle.draw.specs.declared.Outcome.the-variants.{Touched, Refused as DrawRefused}
-use Prim.Native.Nat.{ℕ}
 use Rattle.greystroke.specs.declared.shape.DrawAnswer.{DrawAnswer}
 use Rattle.greystroke.specs.declared.query.CoverageAnswer.{CoverageAnswer}
 
@@ -16,6 +20,15 @@ abbrev pub drawn : Outcome → DrawAnswer
 drawn (Touched count) = record { refusal = 0; touched = count }
 drawn (DrawRefused fault) = record { refusal = fault; touched = 0 }
 
--- a clip by its four numbers
+-- a clip and a shape by the numbers that C hands over
 abbrev pub clipOf : ℕ → ℕ → ℕ → ℕ → Clip
 clipOf x0 y0 x1 y1 = record { x0 = x0; y0 = y0; x1 = x1; y1 = y1 }
+
+abbrev pub lineOf : Bool → ℤ → ℤ → ℤ → ℤ → Shape
+lineOf exact x0 y0 x1 y1 = Line (record { exact = exact; x0 = x0; y0 = y0; x1 = x1; y1 = y1 })
+
+abbrev pub discOf : ℤ → ℤ → ℕ → Shape
+discOf x y radius = Disc (record { x = x; y = y; radius = radius })
+
+abbrev pub ringOf : ℤ → ℤ → ℕ → ℕ → Shape
+ringOf x y radius width = Ring (record { x = x; y = y; radius = radius; width = width })

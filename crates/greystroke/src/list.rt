@@ -2,10 +2,8 @@
 use lists::check::Checked;
 use lists::read::Reading;
 use shapes::Clip;
-use shapes::Disc;
 use shapes::Line;
 use shapes::Record;
-use shapes::Ring;
 use shapes::Setting;
 use shapes::Shape;
 ghost use mathlib.Core.Path.{_≡_};
@@ -99,31 +97,18 @@ fn line_answer(line: Line) -> ReadAnswer
     }
 }
 
-fn disc_answer(disc: Disc) -> ReadAnswer
-    ensures { λ r. ⌜ r ≡ recordAnswer (Record.Shape (Shape.Disc disc)) ⌝ }
+// A disc or a ring.
+fn circle_answer(size: u64, kind: u64, x: i16, y: i16, radius: u16, width: u16) -> ReadAnswer
+    ensures { λ r. ⌜ r ≡ record { refusal = 0; size = size; kind = kind; a = x; b = y; c = pos radius; d = pos width } ⌝ }
 {
     ReadAnswer {
         refusal: 0,
-        size: 6,
-        kind: 5,
-        a: wide(disc.x),
-        b: wide(disc.y),
-        c: wide_unsigned(disc.radius),
-        d: 0,
-    }
-}
-
-fn ring_answer(ring: Ring) -> ReadAnswer
-    ensures { λ r. ⌜ r ≡ recordAnswer (Record.Shape (Shape.Ring ring)) ⌝ }
-{
-    ReadAnswer {
-        refusal: 0,
-        size: 7,
-        kind: 6,
-        a: wide(ring.x),
-        b: wide(ring.y),
-        c: wide_unsigned(ring.radius),
-        d: wide_unsigned(ring.width),
+        size,
+        kind,
+        a: wide(x),
+        b: wide(y),
+        c: wide_unsigned(radius),
+        d: wide_unsigned(width),
     }
 }
 
@@ -141,8 +126,8 @@ fn shape_answer(shape: Shape) -> ReadAnswer
 {
     match shape {
         Shape::Line(line) => line_answer(line),
-        Shape::Disc(disc) => disc_answer(disc),
-        Shape::Ring(ring) => ring_answer(ring),
+        Shape::Disc(disc) => circle_answer(6, 5, disc.x, disc.y, disc.radius, 0),
+        Shape::Ring(ring) => circle_answer(7, 6, ring.x, ring.y, ring.radius, ring.width),
     }
 }
 

@@ -1,8 +1,11 @@
 // Coverage queries.
+use shapes::Disc;
+use shapes::Line;
+use shapes::Ring;
+use shapes::Shape;
 ghost use mathlib.Core.Path.{_≡_};
-ghost use Rattle.greystroke.specs.Answers.{answered};
+ghost use Rattle.greystroke.specs.Answers.{lineOf, discOf, ringOf, answered};
 ghost use Rattle.coverage.specs.Coverage.{queried};
-ghost use Rattle.shapes.specs.declared.Shape.the-variants.{Line as asLine, Disc as asDisc, Ring as asRing};
 
 // n over d where refusal is 0; else n and d are 0.
 #[repr(C)]
@@ -30,6 +33,13 @@ fn coverage_answer(answer: coverage::Answer) -> CoverageAnswer
     }
 }
 
+// Every query asks the library so.
+fn query(shape: Shape, x: i16, y: i16) -> CoverageAnswer
+    ensures { λ r. ⌜ r ≡ answered (queried shape x y) ⌝ }
+{
+    coverage_answer(coverage::coverage(shape, x, y))
+}
+
 // The coverage of pixel (x, y) by a line.
 #[no_mangle]
 pub extern "C" fn greystroke_line_coverage(
@@ -41,16 +51,16 @@ pub extern "C" fn greystroke_line_coverage(
     x: i16,
     y: i16,
 ) -> CoverageAnswer
-    ensures { λ r. ⌜ r ≡ answered (queried (asLine (record { exact = exact; x0 = x0; y0 = y0; x1 = x1; y1 = y1 })) x y) ⌝ }
+    ensures { λ r. ⌜ r ≡ answered (queried (lineOf exact x0 y0 x1 y1) x y) ⌝ }
 {
-    let line = shapes::Line {
+    let line = Line {
         exact,
         x0,
         y0,
         x1,
         y1,
     };
-    coverage_answer(coverage::coverage(shapes::Shape::Line(line), x, y))
+    query(Shape::Line(line), x, y)
 }
 
 // The coverage of pixel (x, y) by a disc.
@@ -62,14 +72,14 @@ pub extern "C" fn greystroke_disc_coverage(
     x: i16,
     y: i16,
 ) -> CoverageAnswer
-    ensures { λ r. ⌜ r ≡ answered (queried (asDisc (record { x = cx; y = cy; radius = radius })) x y) ⌝ }
+    ensures { λ r. ⌜ r ≡ answered (queried (discOf cx cy radius) x y) ⌝ }
 {
-    let disc = shapes::Disc {
+    let disc = Disc {
         x: cx,
         y: cy,
         radius,
     };
-    coverage_answer(coverage::coverage(shapes::Shape::Disc(disc), x, y))
+    query(Shape::Disc(disc), x, y)
 }
 
 // The coverage of pixel (x, y) by a ring.
@@ -82,13 +92,13 @@ pub extern "C" fn greystroke_ring_coverage(
     x: i16,
     y: i16,
 ) -> CoverageAnswer
-    ensures { λ r. ⌜ r ≡ answered (queried (asRing (record { x = cx; y = cy; radius = radius; width = width })) x y) ⌝ }
+    ensures { λ r. ⌜ r ≡ answered (queried (ringOf cx cy radius width) x y) ⌝ }
 {
-    let ring = shapes::Ring {
+    let ring = Ring {
         x: cx,
         y: cy,
         radius,
         width,
     };
-    coverage_answer(coverage::coverage(shapes::Shape::Ring(ring), x, y))
+    query(Shape::Ring(ring), x, y)
 }

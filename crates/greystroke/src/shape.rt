@@ -1,10 +1,13 @@
 // One shape on a lent page.
 use shapes::Clip;
+use shapes::Disc;
+use shapes::Line;
+use shapes::Ring;
+use shapes::Shape;
 ghost use mathlib.Core.Path.{_≡_};
 ghost use lib.ListN.{length};
-ghost use Rattle.shapes.specs.declared.Shape.the-variants.{Line as asLine, Disc as asDisc, Ring as asRing};
 ghost use Rattle.draw.specs.Draw.{outcome, pageOf};
-ghost use Rattle.greystroke.specs.Answers.{clipOf, drawn};
+ghost use Rattle.greystroke.specs.Answers.{clipOf, lineOf, discOf, ringOf, drawn};
 
 // How many pixels were touched where refusal is 0.
 #[repr(C)]
@@ -35,6 +38,14 @@ fn draw_answer(outcome: draw::Outcome) -> DrawAnswer
     }
 }
 
+// Every shape is drawn so.
+fn draw(page: &mut [u8], w: u16, h: u16, clip: Clip, level: u8, shape: Shape) -> DrawAnswer
+    ensures { λ r. ⌜ r ≡ drawn (outcome w h (length (now (page .entry))) clip shape) ⌝ }
+    ensures { λ r. ⌜ now (page .exit) ≡ pageOf w h clip level shape (now (page .entry)) ⌝ }
+{
+    draw_answer(draw::draw_shape(page, w, h, clip, level, shape))
+}
+
 // Draws a line inside a clip.
 #[no_mangle]
 pub extern "C" fn greystroke_draw_line(
@@ -52,18 +63,18 @@ pub extern "C" fn greystroke_draw_line(
     x1: i16,
     y1: i16,
 ) -> DrawAnswer
-    ensures { λ r. ⌜ r ≡ drawn (outcome w h (length (now (page .entry))) (clipOf left top right bottom) (asLine (record { exact = exact; x0 = x0; y0 = y0; x1 = x1; y1 = y1 }))) ⌝ }
-    ensures { λ r. ⌜ now (page .exit) ≡ pageOf w h (clipOf left top right bottom) level (asLine (record { exact = exact; x0 = x0; y0 = y0; x1 = x1; y1 = y1 })) (now (page .entry)) ⌝ }
+    ensures { λ r. ⌜ r ≡ drawn (outcome w h (length (now (page .entry))) (clipOf left top right bottom) (lineOf exact x0 y0 x1 y1)) ⌝ }
+    ensures { λ r. ⌜ now (page .exit) ≡ pageOf w h (clipOf left top right bottom) level (lineOf exact x0 y0 x1 y1) (now (page .entry)) ⌝ }
 {
     let clip = clip_of(left, top, right, bottom);
-    let line = shapes::Line {
+    let line = Line {
         exact,
         x0,
         y0,
         x1,
         y1,
     };
-    draw_answer(draw::draw_shape(page, w, h, clip, level, shapes::Shape::Line(line)))
+    draw(page, w, h, clip, level, Shape::Line(line))
 }
 
 // Draws a disc inside a clip.
@@ -81,16 +92,16 @@ pub extern "C" fn greystroke_draw_disc(
     cy: i16,
     radius: u16,
 ) -> DrawAnswer
-    ensures { λ r. ⌜ r ≡ drawn (outcome w h (length (now (page .entry))) (clipOf left top right bottom) (asDisc (record { x = cx; y = cy; radius = radius }))) ⌝ }
-    ensures { λ r. ⌜ now (page .exit) ≡ pageOf w h (clipOf left top right bottom) level (asDisc (record { x = cx; y = cy; radius = radius })) (now (page .entry)) ⌝ }
+    ensures { λ r. ⌜ r ≡ drawn (outcome w h (length (now (page .entry))) (clipOf left top right bottom) (discOf cx cy radius)) ⌝ }
+    ensures { λ r. ⌜ now (page .exit) ≡ pageOf w h (clipOf left top right bottom) level (discOf cx cy radius) (now (page .entry)) ⌝ }
 {
     let clip = clip_of(left, top, right, bottom);
-    let disc = shapes::Disc {
+    let disc = Disc {
         x: cx,
         y: cy,
         radius,
     };
-    draw_answer(draw::draw_shape(page, w, h, clip, level, shapes::Shape::Disc(disc)))
+    draw(page, w, h, clip, level, Shape::Disc(disc))
 }
 
 // Draws a ring inside a clip.
@@ -109,15 +120,15 @@ pub extern "C" fn greystroke_draw_ring(
     radius: u16,
     width: u16,
 ) -> DrawAnswer
-    ensures { λ r. ⌜ r ≡ drawn (outcome w h (length (now (page .entry))) (clipOf left top right bottom) (asRing (record { x = cx; y = cy; radius = radius; width = width }))) ⌝ }
-    ensures { λ r. ⌜ now (page .exit) ≡ pageOf w h (clipOf left top right bottom) level (asRing (record { x = cx; y = cy; radius = radius; width = width })) (now (page .entry)) ⌝ }
+    ensures { λ r. ⌜ r ≡ drawn (outcome w h (length (now (page .entry))) (clipOf left top right bottom) (ringOf cx cy radius width)) ⌝ }
+    ensures { λ r. ⌜ now (page .exit) ≡ pageOf w h (clipOf left top right bottom) level (ringOf cx cy radius width) (now (page .entry)) ⌝ }
 {
     let clip = clip_of(left, top, right, bottom);
-    let ring = shapes::Ring {
+    let ring = Ring {
         x: cx,
         y: cy,
         radius,
         width,
     };
-    draw_answer(draw::draw_shape(page, w, h, clip, level, shapes::Shape::Ring(ring)))
+    draw(page, w, h, clip, level, Shape::Ring(ring))
 }

@@ -1,11 +1,16 @@
 // The writer of a drawing list: a header or one record into a lent list.
+use lists::format::Header;
 use lists::write::Written;
+use shapes::Clip;
+use shapes::Disc;
+use shapes::Line;
 use shapes::Record;
+use shapes::Ring;
 use shapes::Setting;
 use shapes::Shape;
 ghost use mathlib.Core.Path.{_≡_};
 ghost use Rattle.lists.specs.Write.{headerWritten, headerList, recordWritten, recordList};
-ghost use Rattle.greystroke.specs.Answers.{clipOf};
+ghost use Rattle.greystroke.specs.Answers.{clipOf, lineOf, discOf, ringOf};
 ghost use Rattle.greystroke.specs.Lists.{writeAnswer, headerOf};
 
 // The place, W and H from now on; after a refusal they are those that were held.
@@ -43,12 +48,20 @@ pub extern "C" fn greystroke_write_header(
     ensures { λ r. ⌜ r ≡ writeAnswer (headerWritten (now (list .entry)) place w h (headerOf width height background)) ⌝ }
     ensures { λ r. ⌜ now (list .exit) ≡ headerList (now (list .entry)) (headerOf width height background) ⌝ }
 {
-    let header = lists::format::Header {
+    let header = Header {
         w: width,
         h: height,
         background,
     };
     write_answer(lists::write::write_header(list, place, w, h, header))
+}
+
+// Every record is written so.
+fn write(list: &mut [u8], place: usize, w: u16, h: u16, rec: Record) -> WriteAnswer
+    ensures { λ r. ⌜ r ≡ writeAnswer (recordWritten (now (list .entry)) place w h rec) ⌝ }
+    ensures { λ r. ⌜ now (list .exit) ≡ recordList (now (list .entry)) place w h rec ⌝ }
+{
+    write_answer(lists::write::write_record(list, place, w, h, rec))
 }
 
 // Writes an end record to the place.
@@ -57,7 +70,7 @@ pub extern "C" fn greystroke_write_end(list: &mut [u8], place: usize, w: u16, h:
     ensures { λ r. ⌜ r ≡ writeAnswer (recordWritten (now (list .entry)) place w h Record.End) ⌝ }
     ensures { λ r. ⌜ now (list .exit) ≡ recordList (now (list .entry)) place w h Record.End ⌝ }
 {
-    write_answer(lists::write::write_record(list, place, w, h, Record::End))
+    write(list, place, w, h, Record::End)
 }
 
 // Writes a clip to the place.
@@ -75,19 +88,13 @@ pub extern "C" fn greystroke_write_clip(
     ensures { λ r. ⌜ r ≡ writeAnswer (recordWritten (now (list .entry)) place w h (Record.Setting (Setting.Clip (clipOf left top right bottom)))) ⌝ }
     ensures { λ r. ⌜ now (list .exit) ≡ recordList (now (list .entry)) place w h (Record.Setting (Setting.Clip (clipOf left top right bottom))) ⌝ }
 {
-    let clip = shapes::Clip {
+    let clip = Clip {
         x0: left,
         y0: top,
         x1: right,
         y1: bottom,
     };
-    write_answer(lists::write::write_record(
-        list,
-        place,
-        w,
-        h,
-        Record::Setting(Setting::Clip(clip)),
-    ))
+    write(list, place, w, h, Record::Setting(Setting::Clip(clip)))
 }
 
 // Writes a level to the place.
@@ -102,13 +109,7 @@ pub extern "C" fn greystroke_write_level(
     ensures { λ r. ⌜ r ≡ writeAnswer (recordWritten (now (list .entry)) place w h (Record.Setting (Setting.Level level))) ⌝ }
     ensures { λ r. ⌜ now (list .exit) ≡ recordList (now (list .entry)) place w h (Record.Setting (Setting.Level level)) ⌝ }
 {
-    write_answer(lists::write::write_record(
-        list,
-        place,
-        w,
-        h,
-        Record::Setting(Setting::Level(level)),
-    ))
+    write(list, place, w, h, Record::Setting(Setting::Level(level)))
 }
 
 // Writes a line to the place.
@@ -124,17 +125,17 @@ pub extern "C" fn greystroke_write_line(
     x1: i16,
     y1: i16,
 ) -> WriteAnswer
-    ensures { λ r. ⌜ r ≡ writeAnswer (recordWritten (now (list .entry)) place w h (Record.Shape (Shape.Line (record { exact = exact; x0 = x0; y0 = y0; x1 = x1; y1 = y1 })))) ⌝ }
-    ensures { λ r. ⌜ now (list .exit) ≡ recordList (now (list .entry)) place w h (Record.Shape (Shape.Line (record { exact = exact; x0 = x0; y0 = y0; x1 = x1; y1 = y1 }))) ⌝ }
+    ensures { λ r. ⌜ r ≡ writeAnswer (recordWritten (now (list .entry)) place w h (Record.Shape (lineOf exact x0 y0 x1 y1))) ⌝ }
+    ensures { λ r. ⌜ now (list .exit) ≡ recordList (now (list .entry)) place w h (Record.Shape (lineOf exact x0 y0 x1 y1)) ⌝ }
 {
-    let line = shapes::Line {
+    let line = Line {
         exact,
         x0,
         y0,
         x1,
         y1,
     };
-    write_answer(lists::write::write_record(list, place, w, h, Record::Shape(Shape::Line(line))))
+    write(list, place, w, h, Record::Shape(Shape::Line(line)))
 }
 
 // Writes a disc to the place.
@@ -148,15 +149,15 @@ pub extern "C" fn greystroke_write_disc(
     cy: i16,
     radius: u16,
 ) -> WriteAnswer
-    ensures { λ r. ⌜ r ≡ writeAnswer (recordWritten (now (list .entry)) place w h (Record.Shape (Shape.Disc (record { x = cx; y = cy; radius = radius })))) ⌝ }
-    ensures { λ r. ⌜ now (list .exit) ≡ recordList (now (list .entry)) place w h (Record.Shape (Shape.Disc (record { x = cx; y = cy; radius = radius }))) ⌝ }
+    ensures { λ r. ⌜ r ≡ writeAnswer (recordWritten (now (list .entry)) place w h (Record.Shape (discOf cx cy radius))) ⌝ }
+    ensures { λ r. ⌜ now (list .exit) ≡ recordList (now (list .entry)) place w h (Record.Shape (discOf cx cy radius)) ⌝ }
 {
-    let disc = shapes::Disc {
+    let disc = Disc {
         x: cx,
         y: cy,
         radius,
     };
-    write_answer(lists::write::write_record(list, place, w, h, Record::Shape(Shape::Disc(disc))))
+    write(list, place, w, h, Record::Shape(Shape::Disc(disc)))
 }
 
 // Writes a ring to the place.
@@ -171,14 +172,14 @@ pub extern "C" fn greystroke_write_ring(
     radius: u16,
     width: u16,
 ) -> WriteAnswer
-    ensures { λ r. ⌜ r ≡ writeAnswer (recordWritten (now (list .entry)) place w h (Record.Shape (Shape.Ring (record { x = cx; y = cy; radius = radius; width = width })))) ⌝ }
-    ensures { λ r. ⌜ now (list .exit) ≡ recordList (now (list .entry)) place w h (Record.Shape (Shape.Ring (record { x = cx; y = cy; radius = radius; width = width }))) ⌝ }
+    ensures { λ r. ⌜ r ≡ writeAnswer (recordWritten (now (list .entry)) place w h (Record.Shape (ringOf cx cy radius width))) ⌝ }
+    ensures { λ r. ⌜ now (list .exit) ≡ recordList (now (list .entry)) place w h (Record.Shape (ringOf cx cy radius width)) ⌝ }
 {
-    let ring = shapes::Ring {
+    let ring = Ring {
         x: cx,
         y: cy,
         radius,
         width,
     };
-    write_answer(lists::write::write_record(list, place, w, h, Record::Shape(Shape::Ring(ring))))
+    write(list, place, w, h, Record::Shape(Shape::Ring(ring)))
 }

@@ -1,8 +1,12 @@
 // Checks a whole list.
 ghost use mathlib.Core.Path.{_≡_};
-ghost use Prim.Native.Nat.{suc, _≤_};
+ghost use mathlib.Core.List.{[], _∷_};
+ghost use Prim.Native.Nat.{suc, _*_, _≤_};
+ghost use lib.Dec.{ltb};
 ghost use lib.ListN.{length, drop};
+ghost use Rattle.shapes.specs.Limits.{first, sizeFault};
 ghost use Rattle.lists.specs.Format.{headerSize};
+ghost use Rattle.lists.specs.Read.{tried};
 ghost use Rattle.lists.specs.List.{hasMark, headerFault, recordsFrom, checkedAs, checkedOf};
 use super::format::HEADER_SIZE;
 use super::format::Header;
@@ -33,6 +37,20 @@ fn has_mark(list: &[u8]) -> bool
     list[2] == b'K'
 }
 
+// The first refusal of W and H for a page of so many bytes, or 0.
+fn room_fault(header: Header, page: usize) -> u8
+    ensures { λ r. ⌜ r ≡ first (tried (sizeFault (header .w) (header .h)) ∷ (ltb page (header .w * header .h), 21) ∷ []) ⌝ }
+{
+    let size = shapes::size_fault(header.w, header.h);
+    if 0 < size {
+        return size;
+    }
+    if (page as u64) < numbers::product(header.w as u64, header.h as u64) {
+        return 21;
+    }
+    0
+}
+
 // The first refusal of the header for a page of so many bytes, or 0.
 fn header_fault(list: &[u8], page: usize) -> u8
     ensures { λ r. ⌜ r ≡ headerFault (now (list .entry)) page ⌝ }
@@ -49,15 +67,7 @@ fn header_fault(list: &[u8], page: usize) -> u8
     if word_at(list, 3) != VERSION {
         return 2;
     }
-    let header = read_header(list);
-    let size = shapes::size_fault(header.w, header.h);
-    if 0 < size {
-        return size;
-    }
-    if (page as u64) < numbers::product(header.w as u64, header.h as u64) {
-        return 21;
-    }
-    0
+    room_fault(read_header(list), page)
 }
 
 // Tries the records one after the other.

@@ -84,18 +84,20 @@ fn record_write_fault(n: usize, place: usize, w: u16, h: u16, rec: Record) -> u8
     0
 }
 
+// The answer of a refusal: the place, W and H remain.
+fn refused(code: u8, place: usize, w: u16, h: u16) -> Written
+    ensures { λ r. ⌜ r ≡ record { code = code; place = place; w = w; h = h } ⌝ }
+{
+    Written { code, place, w, h }
+}
+
 // Writes a header to byte 0, from any place.
 pub fn write_header(list: &mut [u8], place: usize, w: u16, h: u16, header: Header) -> Written
     ensures { λ r. ⌜ (r ≡ headerWritten (now (list .entry)) place w h header) × (now (list .exit) ≡ headerList (now (list .entry)) header) ⌝ }
 {
     let fault = header_write_fault(list.len(), header);
     if 0 < fault {
-        return Written {
-            code: fault,
-            place,
-            w,
-            h,
-        };
+        return refused(fault, place, w, h);
     }
     put(list, 0, header_bytes(header), HEADER_SIZE);
     Written {
@@ -112,12 +114,7 @@ pub fn write_record(list: &mut [u8], place: usize, w: u16, h: u16, rec: Record) 
 {
     let fault = record_write_fault(list.len(), place, w, h, rec);
     if 0 < fault {
-        return Written {
-            code: fault,
-            place,
-            w,
-            h,
-        };
+        return refused(fault, place, w, h);
     }
     let size = record_size(rec);
     put(list, place, record_bytes(rec), size);

@@ -37,7 +37,7 @@ pub struct CheckAnswer {
     pub background: u64,
 }
 
-/// The page's size and the number of touched pixels when `refusal` is 0; else the place of the
+/// The page's size and how many touches were made when `refusal` is 0; else the place of the
 /// refusal.
 #[repr(C)]
 pub struct ListAnswer {

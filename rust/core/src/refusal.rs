@@ -32,7 +32,8 @@ pub enum Refusal {
     ListTooLong = 12,
     /// The page has fewer bytes than pixels.
     PageTooShort = 21,
-    /// The list being written has no room for what is to be written.
+    /// The list being written has no room for what is to be written, or the place of a record is
+    /// inside the header.
     NoRoom = 22,
 }
 

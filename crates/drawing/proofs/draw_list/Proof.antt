@@ -1,5 +1,4 @@
 use mathlib.Core.Path.{sym, _∙_}
-use native.Mathlib.Omega.{arith}
 use denote.Ref.{now}
 use Rattle.drawing.proofs.Bytes.{refused-claim, room, lent, few, list-drawable, accepted-claim}
 use borrow.Author.Needs.{needs}

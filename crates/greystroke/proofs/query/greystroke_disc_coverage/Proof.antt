@@ -1,19 +1,15 @@
-use mathlib.Core.Path.{_∙_, ap}
 use mir.Facts.{toZ-ofZ}
-use Rattle.greystroke.specs.Answers.{answered}
 use borrow.Author.Needs.{needs}
 use Rattle.greystroke.proofs.query.greystroke_disc_coverage.Statement.{statement}
 use Rattle.greystroke.proofs.query.greystroke_disc_coverage.Tie as tie
 
-coverage-requires : tie.Need-coverage-requires
-coverage-requires c κs = search needs
-
-coverage-answer-requires : tie.Need-coverage-answer-requires
-coverage-answer-requires c κs = search needs
+query-requires : tie.Need-query-requires
+query-requires c κs = search needs
 
 returns : tie.Need-returns
-returns c = c .coverage-answer .ensures ∙ ap answered (rw (toZ-ofZ (c .before .before .fits .cx), toZ-ofZ (c .before .before .fits .cy), toZ-ofZ (c .before .before .fits .x), toZ-ofZ (c .before .before .fits .y)) at (c .before .coverage .ensures))
+returns c =
+    let fits = c .before .fits in
+    rw (toZ-ofZ (fits .cx), toZ-ofZ (fits .cy), toZ-ofZ (fits .x), toZ-ofZ (fits .y)) at (c .query .ensures)
 
 pub greystroke-disc-coverage-spec : {M : Type 1} → statement M
-greystroke-disc-coverage-spec =
-    tie.close (tie.spec coverage-requires coverage-answer-requires returns)
+greystroke-disc-coverage-spec = tie.close (tie.spec query-requires returns)

@@ -11,10 +11,14 @@ use Rattle.lists.proofs.write.write_header.Tie as tie
 header-write-fault-requires : tie.Need-header-write-fault-requires
 header-write-fault-requires c κs = search needs
 
+refused-requires : tie.Need-refused-requires
+refused-requires c κs = search needs
+
 returns : tie.Need-returns
 returns c =
-    let a = c .before .before .before .args in
-    header-refused (now (a .list)) (a .place) (a .w) (a .h) (a .header) (sym (c .before .header-write-fault .ensures)) (c .if1 .taken)
+    let a = c .before .before .before .before .args in
+    let kept = header-refused (now (a .list)) (a .place) (a .w) (a .h) (a .header) (sym (c .before .before .header-write-fault .ensures)) (c .before .if1 .taken) in
+    (c .refused .ensures ∙ kept .0, kept .1)
 
 header-bytes-requires : tie.Need-header-bytes-requires
 header-bytes-requires c κs = search needs
@@ -42,6 +46,7 @@ write-header-spec =
     tie.close
     (tie.spec
     header-write-fault-requires
+    refused-requires
     returns
     header-bytes-requires
     put-requires

@@ -15,10 +15,14 @@ use Rattle.lists.proofs.write.write_record.Tie as tie
 record-write-fault-requires : tie.Need-record-write-fault-requires
 record-write-fault-requires c κs = search needs
 
+refused-requires : tie.Need-refused-requires
+refused-requires c κs = search needs
+
 returns : tie.Need-returns
 returns c =
-    let a = c .before .before .before .args in
-    record-refused (now (a .list)) (a .place) (a .w) (a .h) (a .rec) (sym (c .before .record-write-fault .ensures)) (c .if1 .taken)
+    let a = c .before .before .before .before .args in
+    let kept = record-refused (now (a .list)) (a .place) (a .w) (a .h) (a .rec) (sym (c .before .before .record-write-fault .ensures)) (c .before .if1 .taken) in
+    (c .refused .ensures ∙ kept .0, kept .1)
 
 record-size-requires : tie.Need-record-size-requires
 record-size-requires c κs =
@@ -68,6 +72,7 @@ write-record-spec =
     tie.close
     (tie.spec
     record-write-fault-requires
+    refused-requires
     returns
     record-size-requires
     record-bytes-requires

@@ -1,8 +1,8 @@
 use mathlib.Core.Path.{_∙_, ap}
 use borrow.Author.Needs.{needs}
 use Rattle.greystroke.specs.Lists.{writeAnswer}
-use Rattle.greystroke.proofs.writing.greystroke_write_level.Statement.{statement}
-use Rattle.greystroke.proofs.writing.greystroke_write_level.Tie as tie
+use Rattle.greystroke.proofs.writing.write.Statement.{statement}
+use Rattle.greystroke.proofs.writing.write.Tie as tie
 
 write-record-requires : tie.Need-write-record-requires
 write-record-requires c κs = search needs
@@ -18,6 +18,6 @@ returns c =
     let written = c .before .before .before .write-record .ensures in
     (c .write-answer .ensures ∙ ap writeAnswer (written .0), written .1)
 
-pub greystroke-write-level-spec : {M : Type 1} → statement M
-greystroke-write-level-spec =
+pub write-spec : {M : Type 1} → statement M
+write-spec =
     tie.close (tie.spec write-record-requires write-answer-requires same-length returns)
