@@ -30,7 +30,7 @@ use Rattle.draw.proofs.Faults.{view-lawful}
 use Rattle.drawing.specs.Drawing.{Drawing, start, drawings, touchOf, touchesAt}
 use Rattle.drawing.specs.Page.{drawnPage, shapesCount}
 use Rattle.drawing.specs.Walk.{recordsIn, listRecords, listDrawings, Drawable, painted, AllLawful}
-use Rattle.drawing.specs.Claim.{answerOf, pageOf, Near, Bounded, Counted}
+use Rattle.drawing.specs.Claim.{answerOf, answerByPixels, pageOf, Near, Bounded}
 use Rattle.drawing.specs.declared.Answer.{Answer}
 use Rattle.drawing.specs.declared.Answer.the-variants.{Drawn, Refused as refusedAt}
 use Rattle.drawing.proofs.Shapes.{counts-same}
@@ -119,15 +119,15 @@ all-near w h b ds l room v a x y i j =
 
 -- the four promises: a list with the header d and the records x answers r on the page l, and leaves m
 abbrev pub Claimed : Header → Records → List ℕ → Answer → List ℕ → Type 0
-Claimed d x l r m = (r ≡ answerOf d x) × ((m ≡ pageOf d x l) × (Bounded d x m × Counted d x r))
+Claimed d x l r m = (r ≡ answerOf d x) × ((m ≡ pageOf d x l) × (Bounded d x m × (r ≡ answerByPixels d x)))
 
 pub refused-claim : (s l : List ℕ) (f place : ℕ) → Refused f place ≡ checkedOf s (length l) → Claimed (headerAt s) (recordsOf s (length l)) l (refusedAt f place) l
-unfolding answerOf pageOf Bounded Counted
+unfolding answerOf answerByPixels pageOf Bounded
 refused-claim s l f place e = go (recordsOf s (length l)) e
   where
     go : (x : Records) → Refused f place ≡ checkedAs (headerAt s) x → Claimed (headerAt s) x l (refusedAt f place) l
     go (accepted rs) k = absurd (let z : _≡_ {A = ℕ} 0 1 = cc in omega arith)
-    go (refused g q) k = let a : f ≡ g = cc in let b : place ≡ q = cc in (rw (a, b), (refl, (tt, tt)))
+    go (refused g q) k = let a : f ≡ g = cc in let b : place ≡ q = cc in (rw (a, b), (refl, (tt, rw (a, b))))
 
 module _ (s l : List ℕ) (d : Header) (e : Accepted d ≡ checkedOf s (length l)) where
   found : AcceptedAs s (length l) d
@@ -169,9 +169,9 @@ module _ (s l : List ℕ) (d : Header) (e : Accepted d ≡ checkedOf s (length l
         (painted-are ∙ ap (λ (ds : List Drawing). painted (d .w) (d .background) ds (take (d .w * d .h) l)) drawings-are)
 
     records-claim : Claimed d (accepted (found .records)) l (Drawn (d .w) (d .h) t) (p ++ drop (d .w * d .h) l)
-    unfolding answerOf pageOf Bounded Counted
+    unfolding answerOf answerByPixels pageOf Bounded
     records-claim =
-        (ap (Drawn (d .w) (d .h)) (count-is ∙ counts-same (d .w) (d .h) (drawings (d .w) (d .h) (found .records))), (page-is, (bounded, ap (Drawn (d .w) (d .h)) count-is)))
+        (ap (Drawn (d .w) (d .h)) count-is, (page-is, (bounded, ap (Drawn (d .w) (d .h)) (count-is ∙ counts-same (d .w) (d .h) (drawings (d .w) (d .h) (found .records))))))
       where
         bounded : (x y : ℕ) → x < d .w → y < d .h
             → Near (getD (p ++ drop (d .w * d .h) l) (y * d .w + x) 0) (d .background) (touchesAt (drawings (d .w) (d .h) (found .records)) x y)

@@ -12,10 +12,15 @@ use Rattle.drawing.specs.Page.{drawnPage, pixelsCount, shapesCount}
 use Rattle.drawing.specs.declared.Answer.{Answer}
 use Rattle.drawing.specs.declared.Answer.the-variants.{Drawn, Refused}
 
--- W, H and the count; or the refusal and its place
+-- W, H and the touched count: the sum, over the shapes, of the pixels that each touches; or the refusal and its place
 unfoldable pub answerOf : Header → Records → Answer
-answerOf d (accepted rs) = Drawn (d .w) (d .h) (pixelsCount (d .w) (d .h) (drawings (d .w) (d .h) rs))
+answerOf d (accepted rs) = Drawn (d .w) (d .h) (shapesCount (d .w) (d .h) (drawings (d .w) (d .h) rs))
 answerOf d (refused f place) = Refused f place
+
+-- the same answer with the count as the sum, over all pixels, of the shapes that touch each
+unfoldable pub answerByPixels : Header → Records → Answer
+answerByPixels d (accepted rs) = Drawn (d .w) (d .h) (pixelsCount (d .w) (d .h) (drawings (d .w) (d .h) rs))
+answerByPixels d (refused f place) = Refused f place
 
 -- the page l after the list; after a refusal as it was
 unfoldable pub pageOf : Header → Records → List ℕ → List ℕ
@@ -33,8 +38,3 @@ unfoldable pub Bounded : Header → Records → List ℕ → Type 0
 Bounded d (accepted rs) m =
     (x y : ℕ) → x < d .w → y < d .h → Near (getD m (y * d .w + x) 0) (d .background) (touchesAt (drawings (d .w) (d .h) rs) x y)
 Bounded d (refused f place) m = Unit {0}
-
--- the count is also the sum over the shapes of the pixels that each touches
-unfoldable pub Counted : Header → Records → Answer → Type 0
-Counted d (accepted rs) r = r ≡ Drawn (d .w) (d .h) (shapesCount (d .w) (d .h) (drawings (d .w) (d .h) rs))
-Counted d (refused f place) r = Unit {0}

@@ -14,11 +14,11 @@ use Rattle.drawing.specs.Drawing.{Drawing, touchesAt}
 unfoldable pub drawnPage : ℕ → ℕ → ℕ → List Drawing → List ℕ → List ℕ
 drawnPage w h b ds = over (λ k u. cond (ltb k (w * h)) (byteAfter b (touchesAt ds (k % w) (k / w))) u)
 
--- the touches of all pixels
-unfoldable pub pixelsCount : ℕ → ℕ → List Drawing → ℕ
-pixelsCount w h ds = sumTo h (λ y. sumTo w (λ x. length (touchesAt ds x y)))
-
--- the pixels that each shape touches
+-- the sum, over the shapes, of the pixels that each touches
 unfoldable pub shapesCount : ℕ → ℕ → List Drawing → ℕ
 shapesCount w h [] = 0
 shapesCount w h (d ∷ ds) = touchCount w h (d .settings .clip) (d .shape) + shapesCount w h ds
+
+-- the sum, over all pixels, of the shapes that touch each
+unfoldable pub pixelsCount : ℕ → ℕ → List Drawing → ℕ
+pixelsCount w h ds = sumTo h (λ y. sumTo w (λ x. length (touchesAt ds x y)))

@@ -16,7 +16,7 @@ ghost use Rattle.draw.specs.Draw.{viewOf};
 ghost use Rattle.drawing.specs.Drawing.{start, inForce, drawingOf};
 ghost use Rattle.drawing.specs.Page.{shapesCount};
 ghost use Rattle.drawing.specs.Walk.{settingsOf, shapesPage, listDrawings, Drawable, AllLawful, painted};
-ghost use Rattle.drawing.specs.Claim.{answerOf, pageOf, Bounded, Counted};
+ghost use Rattle.drawing.specs.Claim.{answerOf, answerByPixels, pageOf, Bounded};
 
 // The clip and the level in force.
 pub struct Settings {
@@ -117,7 +117,7 @@ pub fn draw_list(page: &mut [u8], list: &[u8]) -> Answer
     ensures { λ r. ⌜ r ≡ answerOf (headerAt (now (list .entry))) (recordsOf (now (list .entry)) (length (now (page .entry)))) ⌝ }
     ensures { λ r. ⌜ now (page .exit) ≡ pageOf (headerAt (now (list .entry))) (recordsOf (now (list .entry)) (length (now (page .entry)))) (now (page .entry)) ⌝ }
     ensures { λ r. ⌜ Bounded (headerAt (now (list .entry))) (recordsOf (now (list .entry)) (length (now (page .entry)))) (now (page .exit)) ⌝ }
-    ensures { λ r. ⌜ Counted (headerAt (now (list .entry))) (recordsOf (now (list .entry)) (length (now (page .entry)))) r ⌝ }
+    ensures { λ r. ⌜ r ≡ answerByPixels (headerAt (now (list .entry))) (recordsOf (now (list .entry)) (length (now (page .entry)))) ⌝ }
 {
     let checked = lists::check::check_list(list, page.len());
     match checked {

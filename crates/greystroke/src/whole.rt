@@ -4,7 +4,7 @@ ghost use mathlib.Core.Path.{_≡_};
 ghost use lib.ListN.{length};
 ghost use Rattle.lists.specs.Format.{headerAt};
 ghost use Rattle.lists.specs.List.{recordsOf};
-ghost use Rattle.drawing.specs.Claim.{answerOf, pageOf, Bounded};
+ghost use Rattle.drawing.specs.Claim.{answerOf, answerByPixels, pageOf, Bounded};
 ghost use Rattle.greystroke.specs.Whole.{listed};
 
 // W, H and how many pixels were touched where refusal is 0; else the place of the refusal.
@@ -45,6 +45,7 @@ pub extern "C" fn greystroke_draw_list(page: &mut [u8], list: &[u8]) -> ListAnsw
     ensures { λ r. ⌜ r ≡ listed (answerOf (headerAt (now (list .entry))) (recordsOf (now (list .entry)) (length (now (page .entry))))) ⌝ }
     ensures { λ r. ⌜ now (page .exit) ≡ pageOf (headerAt (now (list .entry))) (recordsOf (now (list .entry)) (length (now (page .entry)))) (now (page .entry)) ⌝ }
     ensures { λ r. ⌜ Bounded (headerAt (now (list .entry))) (recordsOf (now (list .entry)) (length (now (page .entry)))) (now (page .exit)) ⌝ }
+    ensures { λ r. ⌜ r ≡ listed (answerByPixels (headerAt (now (list .entry))) (recordsOf (now (list .entry)) (length (now (page .entry))))) ⌝ }
 {
     list_answer(drawing::draw_list(page, list))
 }

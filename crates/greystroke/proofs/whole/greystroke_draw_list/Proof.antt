@@ -16,7 +16,7 @@ same-length c = search needs
 returns : tie.Need-returns
 returns c =
     let e = c .before .before .before .draw-list .ensures in
-    (c .list-answer .ensures ∙ ap listed (e .0), (e .1 .0, e .1 .1 .0))
+    (c .list-answer .ensures ∙ ap listed (e .0), (e .1 .0, (e .1 .1 .0, c .list-answer .ensures ∙ ap listed (e .1 .1 .1))))
 
 pub greystroke-draw-list-spec : {M : Type 1} → statement M
 greystroke-draw-list-spec =
