@@ -3,4 +3,3 @@ pub mod Chords
 pub mod Clamp
 pub mod Row
 pub mod Box
-pub mod Pixel

@@ -1,5 +1,4 @@
 // The rows of a ring, each drawn in stretches: edges are blended pixel by pixel, what is whole is filled, a hole is left alone.
-use super::cover::Widths;
 use super::cover::covered_between;
 use super::cover::greater;
 use super::cover::lesser;

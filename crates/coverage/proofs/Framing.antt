@@ -1,16 +1,15 @@
 -- The frame of a line by the offsets of its ends, and a pixel's column and row in it.
-use mathlib.Core.Path.{_≡_, refl, sym, _∙_, ap, ap₂, subst}
+use mathlib.Core.Path.{_≡_, refl, sym, _∙_, subst}
 use mathlib.Core.Bool.{Bool, true, false, not, cond}
 use mathlib.Core.Logic.{⊎-elim}
-use Prim.Native.Nat.{ℕ, suc, _+_, _-_, _≤_, _<_, min, max}
+use Prim.Native.Nat.{ℕ, _+_, _-_, _≤_, _<_}
 use native.Mathlib.Nat.{le-of-lt, lt-of-le-of-lt}
 use native.Mathlib.Omega.{arith}
 use borrow.Author.Tests.{lt-ltb, le-ltb, le-leb, lt-leb}
 use lib.Dec.{ltb, leb}
-use lib.IntN.{ℤ, pos, negsuc, natAbs, negℤ, _-ℤ_}
-use lib.Signed.{leZ}
+use lib.IntN.{ℤ}
 use Rattle.numbers.specs.Order.{dist}
-use Rattle.numbers.specs.Coordinate.{inRange, offsetOf}
+use Rattle.numbers.specs.Coordinate.{offsetOf}
 use Rattle.numbers.proofs.Order.{lt-or-le}
 use Rattle.numbers.proofs.Integer.{Diff, diff-pos, diff-neg, diff-minus, diff-shift}
 use Rattle.numbers.proofs.Coordinate.{InRange, in-range, offset-diff, offset-dist, le-offset}

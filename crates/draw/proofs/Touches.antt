@@ -1,19 +1,17 @@
 -- A page painted with the drawn coverage is the page that the touched pixels make.
 use mathlib.Core.Bool.{Bool, true, false, cond, _&&_}
-use mathlib.Core.Path.{_≡_, refl, sym, ap, ap₂, _∙_}
+use mathlib.Core.Path.{_≡_, refl, sym, _∙_}
 use mathlib.Core.List.{List}
 use mathlib.Core.Logic.{_↔_, ⊎-elim}
-use Prim.Native.Nat.{ℕ, _+_, _-_, _%_, _/_, _≤_, _<_}
+use Prim.Native.Nat.{ℕ, _%_, _/_, _≤_, _<_}
 use native.Mathlib.Omega.{arith}
 use lib.Dec.{ltb, leb}
 use lib.IntN.{pos}
-use lib.ListN.{length, getD}
+use lib.ListN.{getD}
 use borrow.Author.Tests.{lt-ltb, le-ltb}
-use Rattle.numbers.specs.Coordinate.{offsetOf}
-use Rattle.numbers.specs.Sum.{sumTo}
 use Rattle.numbers.proofs.Order.{lt-or-le}
 use Rattle.numbers.proofs.Sum.{sum-ext}
-use Rattle.numbers.proofs.Coordinate.{InRange, in-range, pixel-in, pixel-offset}
+use Rattle.numbers.proofs.Coordinate.{in-range, pixel-in, pixel-offset}
 use Rattle.shapes.specs.Limits.{shapeFault}
 use Rattle.shapes.specs.Offsets.{pointOf}
 use Rattle.shapes.specs.declared.Clip.{Clip}
@@ -23,14 +21,13 @@ use Rattle.shapes.specs.declared.Ring.{Ring}
 use Rattle.shapes.specs.declared.Shape.{Shape}
 use Rattle.shapes.specs.declared.Shape.the-variants.{Disc as disc, Ring as ring}
 use Rattle.shapes.proofs.Limits.{disc-lawful, ring-lawful}
-use Rattle.coverage.specs.Circle.{heightOf, apart, chords}
 use Rattle.coverage.specs.Coverage.{exactN, drawnN, drawnD}
 use Rattle.coverage.proofs.Chord.{disc-drawn, ring-drawn}
 use Rattle.coverage.proofs.Soundness.{sound}
 use Rattle.page.specs.Blend.{blend, inkOf}
-use Rattle.page.specs.Page.{over, dot, touch, clipped, painted, touches, inView, Lawful, Drawn}
+use Rattle.page.specs.Page.{dot, touch, clipped, painted, touches, inView, Lawful, Drawn}
 use Rattle.page.specs.declared.View.{View}
-use Rattle.page.proofs.Clip.{Inside, clip-ext}
+use Rattle.page.proofs.Clip.{clip-ext}
 use Rattle.page.proofs.Over.{over-ext}
 use Rattle.page.proofs.Paint.{drawn-ext}
 use Rattle.circles.specs.Circle.{discOn, ringOn}
