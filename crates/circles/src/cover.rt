@@ -80,6 +80,7 @@ fn is_clear(hs: &[u32; 257], a: u64, b: u64) -> bool
 }
 
 // How many pixels of the row at distance b, from the centre outwards, are whole: a guess, lowered until it passes the test.
+// Fewer would do: what is not known to be whole is blended.
 fn whole_width(hs: &[u32; 257], b: u64) -> u64
     requires { ⌜ Heights (at (now hs)) 255 × (b ≤ 255) ⌝ }
     ensures { λ r. ⌜ (r ≤ 255) × ((a : ℕ) → a < r → chords (at (now (hs .entry))) a b ≡ 512) ⌝ }
@@ -94,7 +95,7 @@ fn whole_width(hs: &[u32; 257], b: u64) -> u64
     0
 }
 
-// From which pixel on none is covered: a guess, raised until it passes the test.
+// From which pixel on none is covered: a guess, raised until it passes the test. A later one would do.
 fn covered_width(hs: &[u32; 257], b: u64) -> u64
     requires { ⌜ Heights (at (now hs)) 255 × (b ≤ 255) ⌝ }
     ensures { λ r. ⌜ (r ≤ 255) × ((a : ℕ) → r ≤ a → chords (at (now (hs .entry))) a b ≡ 0) ⌝ }
