@@ -167,12 +167,8 @@ fn draw_row(
     ensures { λ t. ⌜ RingDrawn view ring (at (now (outer .entry))) (at (now (inner .entry)))
         (view .x0) y (view .x1) (y + 1) (now (page .entry)) (now (page .exit)) t ⌝ }
 {
-    let row = measure(
-        outer,
-        inner,
-        ring.hole,
-        apart_of(ring.cy, y as u64 + OFFSET),
-    );
+    let b = apart_of(ring.cy, y as u64 + OFFSET);
+    let row = measure(outer, inner, ring.hole, b);
     let p = left_at(view, ring, row.outer);
     let q = left_at(view, ring, row.whole);
     let r = right_at(view, ring, row.whole);
@@ -180,34 +176,12 @@ fn draw_row(
     if row.inner == 0 {
         return draw_band(page, view, ring, outer, inner, y, p, q, r, s);
     }
-    let left_edge = left_at(view, ring, row.inner);
-    let left_hole = left_at(view, ring, row.hole);
-    let right_hole = right_at(view, ring, row.hole);
-    let right_edge = right_at(view, ring, row.inner);
-    let left = draw_band(
-        page,
-        view,
-        ring,
-        outer,
-        inner,
-        y,
-        p,
-        q,
-        left_edge,
-        left_hole,
-    );
-    let right = draw_band(
-        page,
-        view,
-        ring,
-        outer,
-        inner,
-        y,
-        right_hole,
-        right_edge,
-        r,
-        s,
-    );
+    let left_in = left_at(view, ring, row.inner);
+    let hole_from = left_at(view, ring, row.hole);
+    let hole_end = right_at(view, ring, row.hole);
+    let right_in = right_at(view, ring, row.inner);
+    let left = draw_band(page, view, ring, outer, inner, y, p, q, left_in, hole_from);
+    let right = draw_band(page, view, ring, outer, inner, y, hole_end, right_in, r, s);
     left + right
 }
 
