@@ -5,7 +5,7 @@ use native.Mathlib.Nat.{div-mul-le-self, lt-div-mul-add, div-eq-of-lt-le, div-lt
 use native.Mathlib.Omega.{arith}
 use Rattle.numbers.specs.Nearest.{nearest}
 
--- r is within one half of n over d, and not one half above it
+-- r is within one half of n over d, and not one half below it
 pub record Nearest (n d r : ℕ) : Type 0 where
   pub low : 2 * (r * d) ≤ 2 * n + d
   pub high : 2 * n < 2 * (r * d) + d
