@@ -16,7 +16,7 @@ use Rattle.circles.specs.Circle.{discOn, ringOn}
 use Rattle.circles.specs.Row.{at, between, betweenOn, RingDrawn, Heights, Nested, Near, Ready, boxed}
 use Rattle.circles.specs.declared.rows.Ring.{Ring}
 use Rattle.circles.proofs.Chords.{chords-far, chords-none, heights-wider}
-use Rattle.circles.proofs.Place.{place-low, place-high, place-rises, before-place, from-place, between-places, apart-near, apart-left, apart-right}
+use Rattle.circles.proofs.Clamp.{clamped-low, clamped-high, clamped-rises, before-clamped, from-clamped, between-clamped, apart-near, apart-left, apart-right}
 
 -- ---- the heights of circles
 
@@ -47,17 +47,17 @@ module _ (view : View) (ring : Ring) (R : ℕ) {size : ℕ} (law : Lawful view s
         w-most = law .w-most;
         h-most = law .h-most;
         room = law .room;
-        x-order = place-rises (view .x0) (view .x1) (ring .cx - R) (ring .cx + R) (omega arith);
-        x-most = le-trans (place-high (view .x0) (view .x1) (ring .cx + R)) (law .x-most);
-        y-order = place-rises (view .y0) (view .y1) (ring .cy - R) (ring .cy + R) (omega arith);
-        y-most = le-trans (place-high (view .y0) (view .y1) (ring .cy + R)) (law .y-most);
+        x-order = clamped-rises (view .x0) (view .x1) (ring .cx - R) (ring .cx + R) (omega arith);
+        x-most = le-trans (clamped-high (view .x0) (view .x1) (ring .cx + R)) (law .x-most);
+        y-order = clamped-rises (view .y0) (view .y1) (ring .cy - R) (ring .cy + R) (omega arith);
+        y-most = le-trans (clamped-high (view .y0) (view .y1) (ring .cy + R)) (law .y-most);
       }
 
   boxed-near : R ≤ 255 → Near (boxed view ring R) ring
   boxed-near h =
       record {
-        columns = λ x p q. near (ring .cx) (x + 4096) (between-places _ _ (ring .cx - R) (ring .cx + R) x (law .x-order) p q);
-        rows = λ y p q. near (ring .cy) (y + 4096) (between-places _ _ (ring .cy - R) (ring .cy + R) y (law .y-order) p q);
+        columns = λ x p q. near (ring .cx) (x + 4096) (between-clamped _ _ (ring .cx - R) (ring .cx + R) x (law .x-order) p q);
+        rows = λ y p q. near (ring .cy) (y + 4096) (between-clamped _ _ (ring .cy - R) (ring .cy + R) y (law .y-order) p q);
       }
     where
       near : (c x : ℕ) → (c - R ≤ x) × (x < c + R) → apart c x ≤ 255
@@ -73,15 +73,15 @@ module _ (view : View) (ring : Ring) (R : ℕ) {size : ℕ} (law : Lawful view s
     boxed-same =
         let box = boxed view ring R in
         clip-shrink (view .x0) (view .y0) (view .x1) (view .y1) (box .x0) (box .y0) (box .x1) (box .y1) (betweenOn (heightOf R) Z ring)
-        (place-low _ _ _ (law .x-order)) (place-low _ _ _ (law .y-order)) (place-high _ _ _) (place-high _ _ _) none
+        (clamped-low _ _ _ (law .x-order)) (clamped-low _ _ _ (law .y-order)) (clamped-high _ _ _) (clamped-high _ _ _) none
       where
         none : (x y : ℕ) → Inside (view .x0) (view .y0) (view .x1) (view .y1) x y
             → Outside (boxed view ring R .x0) (boxed view ring R .y0) (boxed view ring R .x1) (boxed view ring R .y1) x y
             → betweenOn (heightOf R) Z ring x y ≡ 0
-        none x y i (left-of h) = between-far R Z _ _ (inl (apart-left (ring .cx) R (x + 4096) (before-place _ _ _ x (i .left) h)))
-        none x y i (right-of h) = between-far R Z _ _ (inl (apart-right (ring .cx) R (x + 4096) (from-place _ _ _ x (i .right) h)))
-        none x y i (above h) = between-far R Z _ _ (inr (apart-left (ring .cy) R (y + 4096) (before-place _ _ _ y (i .top) h)))
-        none x y i (below h) = between-far R Z _ _ (inr (apart-right (ring .cy) R (y + 4096) (from-place _ _ _ y (i .bottom) h)))
+        none x y i (left-of h) = between-far R Z _ _ (inl (apart-left (ring .cx) R (x + 4096) (before-clamped _ _ _ x (i .left) h)))
+        none x y i (right-of h) = between-far R Z _ _ (inl (apart-right (ring .cx) R (x + 4096) (from-clamped _ _ _ x (i .right) h)))
+        none x y i (above h) = between-far R Z _ _ (inr (apart-left (ring .cy) R (y + 4096) (before-clamped _ _ _ y (i .top) h)))
+        none x y i (below h) = between-far R Z _ _ (inr (apart-right (ring .cy) R (y + 4096) (from-clamped _ _ _ y (i .bottom) h)))
 
     pub boxed-drawn : {ink : ℕ → ℕ → ℕ} {l m : List ℕ} {t : ℕ}
         → Drawn (view .w) (view .h) ink (inView (boxed view ring R) (betweenOn (heightOf R) Z ring)) l m t

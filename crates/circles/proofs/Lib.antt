@@ -1,6 +1,5 @@
 -- Laws of discs and rings on a page.
 pub mod Chords
-pub mod Place
+pub mod Clamp
 pub mod Row
 pub mod Box
-pub mod Pixel

@@ -2,7 +2,7 @@
 use mathlib.Core.Path.{_≡_, sym, subst}
 use mathlib.Core.Logic.{_⊎_, inl, inr, ⊎-elim}
 use mathlib.Core.List.{List}
-use Prim.Native.Nat.{ℕ, _+_, _≤_, _<_}
+use Prim.Native.Nat.{ℕ, _+_, _-_, _≤_, _<_}
 use native.Mathlib.Omega.{arith}
 use lib.ListN.{length}
 use Rattle.page.specs.Page.{clipped, Drawn}
@@ -10,10 +10,10 @@ use Rattle.page.specs.declared.View.{View}
 use Rattle.page.proofs.Clip.{Inside, Outside, left-of, right-of, above, below, clip-ext, clip-shrink, clip-columns}
 use Rattle.page.proofs.Paint.{drawn-ext, drawn-join, drawn-length}
 use Rattle.coverage.specs.Circle.{apart}
-use Rattle.circles.specs.Row.{betweenOn, Ready, Measured, Band, place, leftOf, rightOf}
+use Rattle.circles.specs.Row.{betweenOn, Ready, Measured, Band, RingDrawn, clamped, leftOf, rightOf}
 use Rattle.circles.specs.declared.rows.Ring.{Ring}
 use Rattle.circles.specs.declared.cover.Widths.{Widths}
-use Rattle.circles.proofs.Place.{place-low, place-high, place-rises, before-place, from-place, between-places, apart-near, apart-left, apart-right, apart-left-near, apart-right-near}
+use Rattle.circles.proofs.Clamp.{clamped-low, clamped-high, clamped-rises, before-clamped, from-clamped, between-clamped, apart-near, apart-left, apart-right}
 
 -- a page that was drawn on stands ready as before
 pub ready-after : {w h : ℕ} {ink n : ℕ → ℕ → ℕ} {l m : List ℕ} {t : ℕ} {view : View} {ring : Ring} {Y Z : ℕ → ℕ}
@@ -60,84 +60,75 @@ drawn-row n a b c d y h₁ h₂ none =
     nothing x z i (below h) = absurd (omega arith)
 
 -- a row whose widths are known
-module _ (Y Z : ℕ → ℕ) (view : View) (ring : Ring) (y : ℕ) (row : Widths)
-    (clip : view .x0 ≤ view .x1)
+module _ {Y Z : ℕ → ℕ} {view : View} {size : ℕ} {ring : Ring} {row : Widths} (y : ℕ)
+    (ready : Ready view size ring Y Z)
     (rows : (view .y0 ≤ y) × (y < view .y1))
     (m : Measured Y Z (apart (ring .cy) (y + 4096)) row)
   where
-    rises : (c d : ℕ) → c ≤ d → place (view .x0) (view .x1) c ≤ place (view .x0) (view .x1) d
-    rises = place-rises (view .x0) (view .x1)
+    clip : view .x0 ≤ view .x1
+    clip = ready .lawful .x-order
 
-    within : (c d x : ℕ) → place (view .x0) (view .x1) c ≤ x → x < place (view .x0) (view .x1) d → (c ≤ x + 4096) × (x + 4096 < d)
-    within c d x = between-places (view .x0) (view .x1) c d x clip
+    rises : (c d : ℕ) → c ≤ d → clamped (view .x0) (view .x1) c ≤ clamped (view .x0) (view .x1) d
+    rises = clamped-rises (view .x0) (view .x1)
 
-    -- the band of a row that does not meet the inner circle
+    within : (c d x : ℕ) → clamped (view .x0) (view .x1) c ≤ x → x < clamped (view .x0) (view .x1) d → (c ≤ x + 4096) × (x + 4096 < d)
+    within c d x = between-clamped (view .x0) (view .x1) c d x clip
+
+    -- the band of the offsets b to e; c to d are whole, within the outer circle and outside the inner one
+    band : (b c d e : ℕ) → b ≤ c → c ≤ d → d ≤ e → ring .cx - row .whole ≤ c → d ≤ ring .cx + row .whole
+        → ((x : ℕ) → c ≤ x → x < d → row .inner ≤ apart (ring .cx) x)
+        → Band Y Z view ring y
+        (clamped (view .x0) (view .x1) b) (clamped (view .x0) (view .x1) c) (clamped (view .x0) (view .x1) d) (clamped (view .x0) (view .x1) e)
+    band b c d e h₁ h₂ h₃ left right outside =
+        record {
+          row = rows;
+          order = (clamped-low _ _ _ clip, rises _ _ h₁, rises _ _ h₂, rises _ _ h₃, clamped-high _ _ _);
+          whole =
+              λ x p q.
+              let i = within c d x p q in
+              m .whole-all _ (outside (x + 4096) (i .0) (i .1)) (apart-near (ring .cx) (row .whole) (x + 4096) (omega arith) (omega arith));
+        }
+
+    -- of a row that does not meet the inner circle
     pub solid-band : row .inner ≡ 0
         → Band Y Z view ring y
         (leftOf view ring (row .outer)) (leftOf view ring (row .whole)) (rightOf view ring (row .whole)) (rightOf view ring (row .outer))
-    solid-band none =
-        record {
-          row = rows;
-          order = (place-low _ _ _ clip, rises _ _ (omega arith), rises _ _ (omega arith), rises _ _ (omega arith), place-high _ _ _);
-          whole =
-              λ x p q.
-              let b = within _ _ x p q in
-              m .whole-all _ (omega arith) (apart-near (ring .cx) (row .whole) (x + 4096) (b .0) (b .1));
-        }
+    solid-band none = band _ _ _ _ (omega arith) (omega arith) (omega arith) (omega arith) (omega arith) (λ x p q. omega arith)
 
-    -- the bands to the left and to the right of the hole
+    -- to the left and to the right of the hole
     pub left-band : Band Y Z view ring y
         (leftOf view ring (row .outer)) (leftOf view ring (row .whole)) (leftOf view ring (row .inner)) (leftOf view ring (row .hole))
     left-band =
-        record {
-          row = rows;
-          order = (place-low _ _ _ clip, rises _ _ (omega arith), rises _ _ (omega arith), rises _ _ (omega arith), place-high _ _ _);
-          whole =
-              λ x p q.
-              let b = within _ _ x p q in
-              m .whole-all _
-              (apart-left (ring .cx) (row .inner) (x + 4096) (b .1))
-              (apart-left-near (ring .cx) (row .inner) (row .whole) (x + 4096) (b .0) (b .1));
-        }
+        band _ _ _ _ (omega arith) (omega arith) (omega arith) (omega arith) (omega arith) (λ x _. apart-left (ring .cx) (row .inner) x)
 
     pub right-band : Band Y Z view ring y
         (rightOf view ring (row .hole)) (rightOf view ring (row .inner)) (rightOf view ring (row .whole)) (rightOf view ring (row .outer))
     right-band =
-        record {
-          row = rows;
-          order = (place-low _ _ _ clip, rises _ _ (omega arith), rises _ _ (omega arith), rises _ _ (omega arith), place-high _ _ _);
-          whole =
-              λ x p q.
-              let b = within _ _ x p q in
-              m .whole-all _
-              (apart-right (ring .cx) (row .inner) (x + 4096) (b .0))
-              (apart-right-near (ring .cx) (row .inner) (row .whole) (x + 4096) (b .0) (b .1));
-        }
+        band _ _ _ _ (omega arith) (omega arith) (omega arith) (omega arith) (omega arith) (λ x p _. apart-right (ring .cx) (row .inner) x p)
 
     -- nothing is covered beyond the outer circle, nor in the hole
     none-left : (x : ℕ) → view .x0 ≤ x → x < leftOf view ring (row .outer) → betweenOn Y Z ring x y ≡ 0
-    none-left x h k = m .outer-none _ (apart-left (ring .cx) (row .outer) (x + 4096) (before-place _ _ _ x h k))
+    none-left x h k = m .outer-none _ (apart-left (ring .cx) (row .outer) (x + 4096) (before-clamped _ _ _ x h k))
 
     none-right : (x : ℕ) → x < view .x1 → rightOf view ring (row .outer) ≤ x → betweenOn Y Z ring x y ≡ 0
-    none-right x h k = m .outer-none _ (apart-right (ring .cx) (row .outer) (x + 4096) (from-place _ _ _ x h k))
+    none-right x h k = m .outer-none _ (apart-right (ring .cx) (row .outer) (x + 4096) (from-clamped _ _ _ x h k))
 
     none-middle : (x : ℕ) → leftOf view ring (row .hole) ≤ x → x < rightOf view ring (row .hole) → betweenOn Y Z ring x y ≡ 0
     none-middle x p q = let b = within _ _ x p q in m .hole-none _ (apart-near (ring .cx) (row .hole) (x + 4096) (b .0) (b .1))
 
-    module _ {w h : ℕ} {ink : ℕ → ℕ → ℕ} where
-      pub solid-row : {l m : List ℕ} {t : ℕ}
-          → Drawn w h ink (clipped (leftOf view ring (row .outer)) y (rightOf view ring (row .outer)) (y + 1) (betweenOn Y Z ring)) l m t
-          → Drawn w h ink (clipped (view .x0) y (view .x1) (y + 1) (betweenOn Y Z ring)) l m t
-      solid-row = drawn-row _ _ _ _ _ y (place-low _ _ _ clip) (place-high _ _ _) (λ x p q. ⊎-elim (none-left x p) (none-right x q))
+    pub solid-row : {l m : List ℕ} {t : ℕ}
+        → RingDrawn view ring Y Z (leftOf view ring (row .outer)) y (rightOf view ring (row .outer)) (y + 1) l m t
+        → RingDrawn view ring Y Z (view .x0) y (view .x1) (y + 1) l m t
+    solid-row = drawn-row _ _ _ _ _ y (clamped-low _ _ _ clip) (clamped-high _ _ _) (λ x p q. ⊎-elim (none-left x p) (none-right x q))
 
-      pub hollow-row : {l k m : List ℕ} {t u : ℕ}
-          → Drawn w h ink (clipped (leftOf view ring (row .outer)) y (leftOf view ring (row .hole)) (y + 1) (betweenOn Y Z ring)) l k t
-          → Drawn w h ink (clipped (rightOf view ring (row .hole)) y (rightOf view ring (row .outer)) (y + 1) (betweenOn Y Z ring)) k m u
-          → Drawn w h ink (clipped (view .x0) y (view .x1) (y + 1) (betweenOn Y Z ring)) l m (t + u)
-      hollow-row d e =
-          let n = betweenOn Y Z ring in
-          let c = rightOf view ring (row .hole) in
-          drawn-join (clipped (view .x0) y (view .x1) (y + 1) n)
-          (clip-columns (view .x0) y (view .x1) (y + 1) c n (place-low _ _ _ clip) (place-high _ _ _))
-          (drawn-row n (view .x0) c _ _ y (place-low _ _ _ clip) (rises _ _ (omega arith)) (λ x p q. ⊎-elim (none-left x p) (λ z. none-middle x z q)) d)
-          (drawn-row n c (view .x1) c _ y (omega arith) (place-high _ _ _) (λ x p q. ⊎-elim (λ z. absurd (omega arith)) (none-right x q)) e)
+    pub hollow-row : {l k m : List ℕ} {t u : ℕ}
+        → RingDrawn view ring Y Z (leftOf view ring (row .outer)) y (leftOf view ring (row .hole)) (y + 1) l k t
+        → RingDrawn view ring Y Z (rightOf view ring (row .hole)) y (rightOf view ring (row .outer)) (y + 1) k m u
+        → RingDrawn view ring Y Z (view .x0) y (view .x1) (y + 1) l m (t + u)
+    hollow-row d e =
+        let n = betweenOn Y Z ring in
+        let c = rightOf view ring (row .hole) in
+        drawn-join (clipped (view .x0) y (view .x1) (y + 1) n)
+        (clip-columns (view .x0) y (view .x1) (y + 1) c n (clamped-low _ _ _ clip) (clamped-high _ _ _))
+        (drawn-row n (view .x0) c _ _ y (clamped-low _ _ _ clip) (rises _ _ (omega arith)) (λ x p q. ⊎-elim (none-left x p) (λ z. none-middle x z q)) d)
+        (drawn-row n c (view .x1) c _ y (omega arith) (clamped-high _ _ _) (λ x p q. ⊎-elim (λ z. absurd (omega arith)) (none-right x q)) e)

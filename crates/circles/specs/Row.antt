@@ -45,16 +45,16 @@ pub record Measured (Y Z : ℕ → ℕ) (b : ℕ) (row : Widths) : Type 0 where
 abbrev pub betweenOn : (ℕ → ℕ) → (ℕ → ℕ) → Ring → ℕ → ℕ → ℕ
 betweenOn Y Z ring x y = between Y Z (apart (ring .cx) (x + 4096)) (apart (ring .cy) (y + 4096))
 
--- the column or row, from lo to hi, of an offset
-abbrev pub place : ℕ → ℕ → ℕ → ℕ
-place lo hi c = min hi (max lo (c - 4096))
+-- the column or row of an offset, clamped to lo to hi
+abbrev pub clamped : ℕ → ℕ → ℕ → ℕ
+clamped lo hi c = min hi (max lo (c - 4096))
 
 -- the columns of a clip nearer than d to the centre begin at leftOf and end before rightOf
 abbrev pub leftOf : View → Ring → ℕ → ℕ
-leftOf view ring d = place (view .x0) (view .x1) (ring .cx - d)
+leftOf view ring d = clamped (view .x0) (view .x1) (ring .cx - d)
 
 abbrev pub rightOf : View → Ring → ℕ → ℕ
-rightOf view ring d = place (view .x0) (view .x1) (ring .cx + d)
+rightOf view ring d = clamped (view .x0) (view .x1) (ring .cx + d)
 
 -- the part of a clip that the box of a ring of radius R meets
 abbrev pub boxed : View → Ring → ℕ → View
@@ -63,9 +63,9 @@ boxed view ring R =
       w = view .w;
       h = view .h;
       x0 = leftOf view ring R;
-      y0 = place (view .y0) (view .y1) (ring .cy - R);
+      y0 = clamped (view .y0) (view .y1) (ring .cy - R);
       x1 = rightOf view ring R;
-      y1 = place (view .y0) (view .y1) (ring .cy + R);
+      y1 = clamped (view .y0) (view .y1) (ring .cy + R);
     }
 
 -- every pixel of the clip is near enough to the centre for its heights to be held

@@ -32,14 +32,22 @@ fn wide(height: u32) -> u64
     height as u64
 }
 
+// The height at distance k.
+fn height(hs: &[u32; 257], k: u64) -> u64
+    requires { ⌜ k ≤ 256 ⌝ }
+    ensures { λ r. ⌜ r ≡ at (now (hs .entry)) k ⌝ }
+{
+    wide(hs[k as usize])
+}
+
 // The coverage over 512 by a disc, at the distances a and b.
 fn covered(hs: &[u32; 257], a: u64, b: u64) -> u64
     requires { ⌜ (a ≤ 255) × (b ≤ 255) ⌝ }
     ensures { λ r. ⌜ (r ≡ chords (at (now (hs .entry))) a b) × (r ≤ 512) ⌝ }
 {
-    let m = lesser(a, b) as usize;
+    let m = lesser(a, b);
     let n = greater(a, b);
-    chord_of(wide(hs[m]), n) + chord_of(wide(hs[m + 1]), n)
+    chord_of(height(hs, m), n) + chord_of(height(hs, m + 1), n)
 }
 
 // The coverage over 512 between two circles, the inner of radius hole: a row past that needs no heights of it.
@@ -60,8 +68,7 @@ fn is_whole(hs: &[u32; 257], a: u64, b: u64) -> bool
     requires { ⌜ (a ≤ 255) × (b ≤ 255) ⌝ }
     ensures { λ r. ⌜ r ≡ leb (256 * (max a b + 1)) (at (now (hs .entry)) (min a b + 1)) ⌝ }
 {
-    let m = lesser(a, b) as usize;
-    256 * (greater(a, b) + 1) <= wide(hs[m + 1])
+    256 * (greater(a, b) + 1) <= height(hs, lesser(a, b) + 1)
 }
 
 // Whether nothing of it is covered: the higher one tells.
@@ -69,17 +76,16 @@ fn is_clear(hs: &[u32; 257], a: u64, b: u64) -> bool
     requires { ⌜ (a ≤ 255) × (b ≤ 255) ⌝ }
     ensures { λ r. ⌜ r ≡ leb (at (now (hs .entry)) (min a b)) (256 * max a b) ⌝ }
 {
-    let m = lesser(a, b) as usize;
-    wide(hs[m]) <= 256 * greater(a, b)
+    height(hs, lesser(a, b)) <= 256 * greater(a, b)
 }
 
 // How many pixels of the row at distance b, from the centre outwards, are whole: a guess, lowered until it passes the test.
+// Fewer would do: what is not known to be whole is blended.
 fn whole_width(hs: &[u32; 257], b: u64) -> u64
     requires { ⌜ Heights (at (now hs)) 255 × (b ≤ 255) ⌝ }
     ensures { λ r. ⌜ (r ≤ 255) × ((a : ℕ) → a < r → chords (at (now (hs .entry))) a b ≡ 512) ⌝ }
 {
-    let above = b as usize + 1;
-    let mut i = wide(hs[above]) / 256;
+    let mut i = height(hs, b + 1) / 256;
     while 0 < i {
         if is_whole(hs, i - 1, b) {
             return i;
@@ -89,13 +95,12 @@ fn whole_width(hs: &[u32; 257], b: u64) -> u64
     0
 }
 
-// From which pixel on none is covered: a guess, raised until it passes the test.
+// From which pixel on none is covered: a guess, raised until it passes the test. A later one would do.
 fn covered_width(hs: &[u32; 257], b: u64) -> u64
     requires { ⌜ Heights (at (now hs)) 255 × (b ≤ 255) ⌝ }
     ensures { λ r. ⌜ (r ≤ 255) × ((a : ℕ) → r ≤ a → chords (at (now (hs .entry))) a b ≡ 0) ⌝ }
 {
-    let here = b as usize;
-    let mut i = (wide(hs[here]) + 255) / 256;
+    let mut i = (height(hs, b) + 255) / 256;
     while i < 255 {
         if is_clear(hs, i, b) {
             return i;

@@ -1,9 +1,9 @@
 // Discs and rings on a lent page.
 use page::View;
 use rows::Ring;
+use rows::clamp_offset;
 use rows::left_at;
 use rows::less;
-use rows::place_in;
 use rows::right_at;
 ghost use mathlib.Core.Path.{_≡_};
 ghost use Prim.Native.Nat.{_≤_};
@@ -26,9 +26,9 @@ fn box_of(view: View, ring: Ring, radius: u64) -> View
         w: view.w,
         h: view.h,
         x0: left_at(view, ring, radius),
-        y0: place_in(view.y0, view.y1, less(ring.cy, radius)),
+        y0: clamp_offset(view.y0, view.y1, less(ring.cy, radius)),
         x1: right_at(view, ring, radius),
-        y1: place_in(view.y0, view.y1, ring.cy + radius),
+        y1: clamp_offset(view.y0, view.y1, ring.cy + radius),
     }
 }
 

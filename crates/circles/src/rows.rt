@@ -1,5 +1,4 @@
 // The rows of a ring, each drawn in stretches: edges are blended pixel by pixel, what is whole is filled, a hole is left alone.
-use super::cover::Widths;
 use super::cover::covered_between;
 use super::cover::greater;
 use super::cover::lesser;
@@ -13,7 +12,7 @@ ghost use Rattle.numbers.specs.Sum.{sumTo};
 ghost use Rattle.page.specs.Blend.{inkOf};
 ghost use Rattle.page.specs.Page.{over, dot, touch, clipped, Lawful, Drawn};
 ghost use Rattle.coverage.specs.Circle.{apart};
-ghost use Rattle.circles.specs.Row.{at, between, Nested, Measured, place, leftOf, rightOf, Ready, Band, RingDrawn};
+ghost use Rattle.circles.specs.Row.{at, between, Nested, clamped, leftOf, rightOf, Ready, Band, RingDrawn};
 
 const OFFSET: u64 = 4096;
 
@@ -32,9 +31,9 @@ pub fn less(a: u64, b: u64) -> u64
     if b <= a { a - b } else { 0 }
 }
 
-// The column or row, from lo to hi, of an offset.
-pub fn place_in(lo: usize, hi: usize, c: u64) -> usize
-    ensures { λ r. ⌜ r ≡ place lo hi c ⌝ }
+// The column or row of an offset, clamped to lo to hi.
+pub fn clamp_offset(lo: usize, hi: usize, c: u64) -> usize
+    ensures { λ r. ⌜ r ≡ clamped lo hi c ⌝ }
 {
     lesser(hi as u64, greater(lo as u64, less(c, OFFSET))) as usize
 }
@@ -43,14 +42,14 @@ pub fn place_in(lo: usize, hi: usize, c: u64) -> usize
 pub fn left_at(view: View, ring: Ring, d: u64) -> usize
     ensures { λ r. ⌜ r ≡ leftOf view ring d ⌝ }
 {
-    place_in(view.x0, view.x1, less(ring.cx, d))
+    clamp_offset(view.x0, view.x1, less(ring.cx, d))
 }
 
 pub fn right_at(view: View, ring: Ring, d: u64) -> usize
     requires { ⌜ (ring .cx ≤ 8191) × (d ≤ 255) ⌝ }
     ensures { λ r. ⌜ r ≡ rightOf view ring d ⌝ }
 {
-    place_in(view.x0, view.x1, ring.cx + d)
+    clamp_offset(view.x0, view.x1, ring.cx + d)
 }
 
 // Blends a stretch whose first pixel is in column x of the row at distance b; hands back how many pixels it touched.
@@ -154,57 +153,7 @@ fn draw_band(
     left + whole + right
 }
 
-// Draws a row that does not meet the inner circle: one band, whole in its middle.
-fn draw_solid_row(
-    page: &mut [u8],
-    view: View,
-    ring: Ring,
-    outer: &[u32; 257],
-    inner: &[u32; 257],
-    y: usize,
-    row: Widths,
-) -> u64
-    requires { ⌜ Ready view (length (now page)) ring (at (now outer)) (at (now inner)) ⌝ }
-    requires { ⌜ (view .y0 ≤ y) × (y < view .y1)
-        × Measured (at (now outer)) (at (now inner)) (apart (ring .cy) (y + 4096)) row × (row .inner ≡ 0) ⌝ }
-    ensures { λ t. ⌜ RingDrawn view ring (at (now (outer .entry))) (at (now (inner .entry)))
-        (view .x0) y (view .x1) (y + 1) (now (page .entry)) (now (page .exit)) t ⌝ }
-{
-    let p = left_at(view, ring, row.outer);
-    let q = left_at(view, ring, row.whole);
-    let r = right_at(view, ring, row.whole);
-    let s = right_at(view, ring, row.outer);
-    draw_band(page, view, ring, outer, inner, y, p, q, r, s)
-}
-
-// Draws a row that meets the inner circle: a band on each side of the hole.
-fn draw_hollow_row(
-    page: &mut [u8],
-    view: View,
-    ring: Ring,
-    outer: &[u32; 257],
-    inner: &[u32; 257],
-    y: usize,
-    row: Widths,
-) -> u64
-    requires { ⌜ Ready view (length (now page)) ring (at (now outer)) (at (now inner)) ⌝ }
-    requires { ⌜ (view .y0 ≤ y) × (y < view .y1) × Measured (at (now outer)) (at (now inner)) (apart (ring .cy) (y + 4096)) row ⌝ }
-    ensures { λ t. ⌜ RingDrawn view ring (at (now (outer .entry))) (at (now (inner .entry)))
-        (view .x0) y (view .x1) (y + 1) (now (page .entry)) (now (page .exit)) t ⌝ }
-{
-    let p = left_at(view, ring, row.outer);
-    let q = left_at(view, ring, row.whole);
-    let r = left_at(view, ring, row.inner);
-    let s = left_at(view, ring, row.hole);
-    let left = draw_band(page, view, ring, outer, inner, y, p, q, r, s);
-    let p = right_at(view, ring, row.hole);
-    let q = right_at(view, ring, row.inner);
-    let r = right_at(view, ring, row.whole);
-    let s = right_at(view, ring, row.outer);
-    left + draw_band(page, view, ring, outer, inner, y, p, q, r, s)
-}
-
-// Draws the columns of the clip in row y.
+// Draws the columns of the clip in row y: one band, or a band on each side of the hole where the row meets the inner circle.
 fn draw_row(
     page: &mut [u8],
     view: View,
@@ -220,11 +169,20 @@ fn draw_row(
 {
     let b = apart_of(ring.cy, y as u64 + OFFSET);
     let row = measure(outer, inner, ring.hole, b);
+    let p = left_at(view, ring, row.outer);
+    let q = left_at(view, ring, row.whole);
+    let r = right_at(view, ring, row.whole);
+    let s = right_at(view, ring, row.outer);
     if row.inner == 0 {
-        draw_solid_row(page, view, ring, outer, inner, y, row)
-    } else {
-        draw_hollow_row(page, view, ring, outer, inner, y, row)
+        return draw_band(page, view, ring, outer, inner, y, p, q, r, s);
     }
+    let left_in = left_at(view, ring, row.inner);
+    let hole_from = left_at(view, ring, row.hole);
+    let hole_end = right_at(view, ring, row.hole);
+    let right_in = right_at(view, ring, row.inner);
+    let left = draw_band(page, view, ring, outer, inner, y, p, q, left_in, hole_from);
+    let right = draw_band(page, view, ring, outer, inner, y, hole_end, right_in, r, s);
+    left + right
 }
 
 // Draws the rows of the clip.

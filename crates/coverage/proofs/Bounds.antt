@@ -4,7 +4,7 @@ use mathlib.Core.Logic.{⊎-elim}
 use Prim.Native.Nat.{ℕ, _+_, _*_, _-_, _≤_, _<_}
 use native.Mathlib.Nat.{mul-le-mul, mul-le-mul-left, mul-pos, eq-zero-or-pos}
 use native.Mathlib.Omega.{arith}
-use Rattle.numbers.specs.Fraction.{Frac, _over_, Within}
+use Rattle.numbers.specs.Fraction.{_over_, Within}
 use Rattle.numbers.proofs.Order.{ring, twice-product}
 use Rattle.coverage.specs.Rows.{cutExcess}
 

@@ -1,9 +1,9 @@
 -- Laws of the chord rule.
 use mathlib.Core.Path.{_≡_, sym, ap₂}
 use mathlib.Core.Logic.{⊎-elim}
-use Prim.Native.Nat.{ℕ, zero, suc, _+_, _*_, _-_, _≤_, _<_, min, max}
+use Prim.Native.Nat.{ℕ, _+_, _*_, _-_, _≤_, _<_, min, max}
 use native.Mathlib.Omega.{arith}
-use lib.IntN.{ℤ, pos, negsuc, _-ℤ_}
+use lib.IntN.{ℤ, _-ℤ_}
 use Rattle.numbers.specs.Coordinate.{offsetOf}
 use Rattle.numbers.proofs.Order.{lt-or-le, square-le}
 use Rattle.numbers.proofs.Integer.{Diff, above, below}

@@ -1,17 +1,17 @@
 -- What holds of both rules at any column and row of a line.
-use mathlib.Core.Path.{_≡_, refl, sym, _∙_, ap, subst}
+use mathlib.Core.Path.{_≡_, sym, _∙_, ap}
 use mathlib.Core.Logic.{⊎-elim, _↔_}
 use Prim.Native.Nat.{ℕ, zero, suc, _+_, _*_, _-_, _≤_, _<_}
 use native.Mathlib.Nat.{mul-pos, mul-sub, eq-zero-or-pos}
 use native.Mathlib.Omega.{arith}
 use lib.IntN.{ℤ, pos, negsuc, natAbs, _+ℤ_, _-ℤ_, +ℤ-comm, +ℤ-negℤ-cancel}
-use Rattle.numbers.specs.Fraction.{Frac, _over_, Within}
+use Rattle.numbers.specs.Fraction.{_over_, Within}
 use Rattle.numbers.proofs.Order.{ring}
 use Rattle.numbers.proofs.Fraction.{within-same, within-wider}
 use Rattle.coverage.specs.Line.{exactRow, exactWhole, approxRow, approxWhole, rowOf, restOf}
 use Rattle.coverage.specs.Rows.{cutExcess, exactRows, approxRows, atRow}
 use Rattle.coverage.specs.declared.line.Rows.{Rows}
-use Rattle.coverage.proofs.Bounds.{square-le-rest, lower-pos, middle-pos, off-least, off-most, within-by}
+use Rattle.coverage.proofs.Bounds.{lower-pos, middle-pos, off-least, off-most, within-by}
 use Rattle.coverage.proofs.Closed.{exact-closed, approx-closed, rest-lt, level-column}
 
 -- ---- the rows of one column, with rest r

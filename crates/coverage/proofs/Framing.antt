@@ -1,16 +1,15 @@
 -- The frame of a line by the offsets of its ends, and a pixel's column and row in it.
-use mathlib.Core.Path.{_≡_, refl, sym, _∙_, ap, ap₂, subst}
+use mathlib.Core.Path.{_≡_, refl, sym, _∙_, subst}
 use mathlib.Core.Bool.{Bool, true, false, not, cond}
 use mathlib.Core.Logic.{⊎-elim}
-use Prim.Native.Nat.{ℕ, suc, _+_, _-_, _≤_, _<_, min, max}
+use Prim.Native.Nat.{ℕ, _+_, _-_, _≤_, _<_}
 use native.Mathlib.Nat.{le-of-lt, lt-of-le-of-lt}
 use native.Mathlib.Omega.{arith}
 use borrow.Author.Tests.{lt-ltb, le-ltb, le-leb, lt-leb}
 use lib.Dec.{ltb, leb}
-use lib.IntN.{ℤ, pos, negsuc, natAbs, negℤ, _-ℤ_}
-use lib.Signed.{leZ}
+use lib.IntN.{ℤ}
 use Rattle.numbers.specs.Order.{dist}
-use Rattle.numbers.specs.Coordinate.{inRange, offsetOf}
+use Rattle.numbers.specs.Coordinate.{offsetOf}
 use Rattle.numbers.proofs.Order.{lt-or-le}
 use Rattle.numbers.proofs.Integer.{Diff, diff-pos, diff-neg, diff-minus, diff-shift}
 use Rattle.numbers.proofs.Coordinate.{InRange, in-range, offset-diff, offset-dist, le-offset}
@@ -130,10 +129,10 @@ module _ (n : Line) (w : LawfulLine n) where
   abbrev Built : Bool → Ends → Frame → Type 0
   Built t o f = Rising t (offsetOf (o .x0)) (offsetOf (o .y0)) (offsetOf (o .x1)) (offsetOf (o .y1)) f
 
-  builds : {t : Bool} {l s : ℕ} {e : Ends} (o : Ends) (f : Frame) → Spans t l s e → rising e ≡ o → EndsIn o
+  builds : {t : Bool} {l s : ℕ} {e : Ends} (o : Ends) {f : Frame} → Spans t l s e → rising e ≡ o → EndsIn o
       → 0 < l → s ≤ l → l ≡ offsetOf (o .x1) - offsetOf (o .x0) → s ≡ dist (offsetOf (o .y0)) (offsetOf (o .y1)) → Built t o f → Framed n f
   unfolding falls
-  builds o f b r i long short el es h =
+  builds o b r i long short el es h =
       let q : framed n ≡ o = b .framed-is ∙ r in
       record {
         l-is = h .l-is ∙ sym el ∙ sym (b .l-is);
@@ -151,17 +150,17 @@ module _ (n : Line) (w : LawfulLine n) where
       }
 
   -- the four orders of spans and ends
-  pub flat-forward : (f : Frame) → along ≤ across → offsetOf (n .x0) ≤ offsetOf (n .x1) → Built false (straight n) f → Framed n f
-  flat-forward f h o = builds (straight n) f (flat h) (forward (straight-in w) o) (straight-in w) (longest h) h (omega arith) refl
+  pub flat-forward : {f : Frame} → along ≤ across → offsetOf (n .x0) ≤ offsetOf (n .x1) → Built false (straight n) f → Framed n f
+  flat-forward h o = builds (straight n) (flat h) (forward (straight-in w) o) (straight-in w) (longest h) h (omega arith) refl
 
-  pub flat-backward : (f : Frame) → along ≤ across → offsetOf (n .x1) < offsetOf (n .x0) → Built false (back (straight n)) f → Framed n f
-  flat-backward f h o = builds (back (straight n)) f (flat h) (backward (straight-in w) o) (back-in (straight-in w)) (longest h) h (omega arith) (dist-comm (offsetOf (n .y0)) (offsetOf (n .y1)))
+  pub flat-backward : {f : Frame} → along ≤ across → offsetOf (n .x1) < offsetOf (n .x0) → Built false (back (straight n)) f → Framed n f
+  flat-backward h o = builds (back (straight n)) (flat h) (backward (straight-in w) o) (back-in (straight-in w)) (longest h) h (omega arith) (dist-comm (offsetOf (n .y0)) (offsetOf (n .y1)))
 
-  pub upright-forward : (f : Frame) → across < along → offsetOf (n .y0) ≤ offsetOf (n .y1) → Built true (turned n) f → Framed n f
-  upright-forward f h o = builds (turned n) f (upright h) (forward (turned-in w) o) (turned-in w) (positive h) (le-of-lt h) (omega arith) refl
+  pub upright-forward : {f : Frame} → across < along → offsetOf (n .y0) ≤ offsetOf (n .y1) → Built true (turned n) f → Framed n f
+  upright-forward h o = builds (turned n) (upright h) (forward (turned-in w) o) (turned-in w) (positive h) (le-of-lt h) (omega arith) refl
 
-  pub upright-backward : (f : Frame) → across < along → offsetOf (n .y1) < offsetOf (n .y0) → Built true (back (turned n)) f → Framed n f
-  upright-backward f h o = builds (back (turned n)) f (upright h) (backward (turned-in w) o) (back-in (turned-in w)) (positive h) (le-of-lt h) (omega arith) (dist-comm (offsetOf (n .x0)) (offsetOf (n .x1)))
+  pub upright-backward : {f : Frame} → across < along → offsetOf (n .y1) < offsetOf (n .y0) → Built true (back (turned n)) f → Framed n f
+  upright-backward h o = builds (back (turned n)) (upright h) (backward (turned-in w) o) (back-in (turned-in w)) (positive h) (le-of-lt h) (omega arith) (dist-comm (offsetOf (n .x0)) (offsetOf (n .x1)))
 
 -- ---- a pixel in range
 module _ {n : Line} {f : Frame} (g : Framed n f) {x y : ℤ} (px : InRange x) (py : InRange y) where

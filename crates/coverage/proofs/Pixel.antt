@@ -1,27 +1,22 @@
 -- The coverage of a pixel by a line, from the frame and the rows of its column.
 use mathlib.Core.Path.{_≡_, refl, sym, _∙_, ap}
 use mathlib.Core.Bool.{Bool, true, false, cond}
-use mathlib.Core.Logic.{_↔_}
-use Prim.Native.Nat.{ℕ, zero, suc, _+_, _*_, _-_, _≤_, _<_}
+use Prim.Native.Nat.{ℕ, _+_, _-_, _≤_, _<_}
 use native.Mathlib.Omega.{arith}
 use borrow.Author.Tests.{lt-ltb, le-ltb}
-use lib.Dec.{ltb}
-use lib.IntN.{ℤ, pos, negsuc, natAbs, subℕ, _-ℤ_}
+use lib.IntN.{ℤ, pos, natAbs, subℕ, _-ℤ_}
 use Rattle.numbers.specs.Coordinate.{offsetOf}
-use Rattle.numbers.specs.Fraction.{_over_, Within}
-use Rattle.numbers.proofs.Integer.{Diff, above, below, is-above, is-below, diff-sub, diff-pos, diff-minus, diff-shift, diff-unique}
+use Rattle.numbers.proofs.Integer.{Diff, above, below, diff-sub, diff-pos, diff-minus, diff-shift, diff-unique}
 use Rattle.numbers.proofs.Coordinate.{InRange}
-use Rattle.numbers.proofs.Fraction.{within-same}
 use Rattle.shapes.specs.declared.Line.{Line}
 use Rattle.coverage.specs.Line.{exactRow, exactWhole, approxRow, approxWhole, rowOf, restOf}
 use Rattle.coverage.specs.Rows.{exactRows, approxRows, atRow}
-use Rattle.coverage.specs.Frame.{longer, shorter, columnOf, frameRow, Framed}
+use Rattle.coverage.specs.Frame.{longer, shorter, frameRow, Framed}
 use Rattle.coverage.specs.Coverage.{inColumns, lineAt, exactD, drawnN, drawnD}
 use Rattle.shapes.specs.declared.Shape.the-variants.{Line as line}
 use Rattle.coverage.specs.declared.line.Frame.{Frame}
 use Rattle.coverage.specs.declared.line.Rows.{Rows}
-use Rattle.coverage.proofs.Closed.{exact-closed, approx-closed}
-use Rattle.coverage.proofs.Column.{exact-nat, approx-nat, exact-le, approx-le, exact-is, approx-is, same-touched, near}
+use Rattle.coverage.proofs.Column.{exact-is, approx-is}
 use Rattle.coverage.proofs.Framing.{column-diff, row-rising, row-falling}
 
 -- a rule and the closed rows of its columns

@@ -1,9 +1,9 @@
 -- The exact rule by differences of naturals: a row has k where six squares say so.
-use mathlib.Core.Path.{_≡_, refl, ap, _∙_, subst, sym}
+use mathlib.Core.Path.{_≡_, subst}
 use Prim.Native.Nat.{ℕ, _+_, _*_, _-_}
 use native.Mathlib.Omega.{arith}
-use lib.IntN.{ℤ, pos, negsuc, _+ℤ_, _-ℤ_, _*ℤ_}
-use Rattle.numbers.proofs.Integer.{Diff, above, below, plus, diff-pos, diff-add, diff-minus, diff-mul, diff-shift, diff-unique, plus-diff}
+use lib.IntN.{ℤ, pos, negsuc, _+ℤ_, _-ℤ_}
+use Rattle.numbers.proofs.Integer.{Diff, plus, diff-pos, diff-add, diff-minus, diff-mul, diff-shift, diff-unique, plus-diff}
 use Rattle.coverage.specs.Edge.{P, slant}
 use Rattle.coverage.specs.Line.{leftHeight, rightHeight, F}
 

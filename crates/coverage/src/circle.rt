@@ -51,7 +51,8 @@ fn lowered(t: u64, m: u64) -> u64
     z
 }
 
-// Where the search for the next height starts. The start is tested, and y, which is above every later height, stands in for one that is too low.
+// Where the search for the next height starts. Any start would do that is not too low: the guess is tested, and y, which is above every
+// later height, stands in for one that is.
 fn search_start(y: u64, step: u64, m: u64) -> u64
     requires { ⌜ (y ≤ 65536) × (m < (2 * y + 1) * (2 * y + 1)) ⌝ }
     ensures { λ r. ⌜ (r ≤ y) × (m < (2 * r + 1) * (2 * r + 1)) ⌝ }

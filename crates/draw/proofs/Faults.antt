@@ -1,7 +1,7 @@
 -- What is tried of a shape on a page, and what a shape without a refusal has.
 use mathlib.Core.Bool.{Bool, true, false, not, cond, _&&_, _||_}
-use mathlib.Core.Path.{_≡_, refl, sym, _∙_}
-use Prim.Native.Nat.{ℕ, suc, _*_, _≤_, _<_}
+use mathlib.Core.Path.{_≡_, refl}
+use Prim.Native.Nat.{ℕ, suc, _*_, _≤_}
 use native.Mathlib.Omega.{arith}
 use lib.Dec.{ltb, leb}
 use borrow.Author.Tests.{ltb-false, leb-true, le-ltb}
@@ -29,14 +29,6 @@ draw-faults w h size c s = go (offSize w h) (ltb size (w * h)) (offPage w h c) (
 or-false : (a b : Bool) → (a || b) ≡ false → (a ≡ false) × (b ≡ false)
 or-false true b e = absurd (let z : _≡_ {A = ℕ} 0 1 = cc in omega arith)
 or-false false b e = (refl, e)
-
-and-true : (a b : Bool) → not (a && b) ≡ false → (a ≡ true) × (not b ≡ false)
-and-true true b e = (refl, e)
-and-true false b e = absurd (let z : _≡_ {A = ℕ} 0 1 = cc in omega arith)
-
-last-true : (a : Bool) → not a ≡ false → a ≡ true
-last-true true e = refl
-last-true false e = absurd (let z : _≡_ {A = ℕ} 0 1 = cc in omega arith)
 
 lawful-view : (w h size : ℕ) (c : Clip) → offSize w h ≡ false → ltb size (w * h) ≡ false → offPage w h c ≡ false → Lawful (viewOf w h c) size
 unfolding offSize offPage

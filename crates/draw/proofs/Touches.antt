@@ -1,34 +1,33 @@
 -- A page painted with the drawn coverage is the page that the touched pixels make.
 use mathlib.Core.Bool.{Bool, true, false, cond, _&&_}
-use mathlib.Core.Path.{_≡_, refl, sym, ap, ap₂, _∙_}
+use mathlib.Core.Path.{_≡_, refl, sym, _∙_}
 use mathlib.Core.List.{List}
 use mathlib.Core.Logic.{_↔_, ⊎-elim}
-use Prim.Native.Nat.{ℕ, _+_, _-_, _%_, _/_, _≤_, _<_}
+use Prim.Native.Nat.{ℕ, _%_, _/_, _≤_, _<_}
 use native.Mathlib.Omega.{arith}
 use lib.Dec.{ltb, leb}
 use lib.IntN.{pos}
-use lib.ListN.{length, getD}
+use lib.ListN.{getD}
 use borrow.Author.Tests.{lt-ltb, le-ltb}
-use Rattle.numbers.specs.Coordinate.{offsetOf}
-use Rattle.numbers.specs.Sum.{sumTo}
 use Rattle.numbers.proofs.Order.{lt-or-le}
 use Rattle.numbers.proofs.Sum.{sum-ext}
-use Rattle.numbers.proofs.Coordinate.{InRange, in-range, pixel-in, pixel-offset}
+use Rattle.numbers.proofs.Coordinate.{in-range, pixel-in, pixel-offset}
 use Rattle.shapes.specs.Limits.{shapeFault}
+use Rattle.shapes.specs.Offsets.{pointOf}
 use Rattle.shapes.specs.declared.Clip.{Clip}
 use Rattle.shapes.specs.declared.Disc.{Disc}
+use Rattle.shapes.specs.declared.Point.{Point}
 use Rattle.shapes.specs.declared.Ring.{Ring}
 use Rattle.shapes.specs.declared.Shape.{Shape}
 use Rattle.shapes.specs.declared.Shape.the-variants.{Disc as disc, Ring as ring}
 use Rattle.shapes.proofs.Limits.{disc-lawful, ring-lawful}
-use Rattle.coverage.specs.Circle.{heightOf, apart, chords}
 use Rattle.coverage.specs.Coverage.{exactN, drawnN, drawnD}
 use Rattle.coverage.proofs.Chord.{disc-drawn, ring-drawn}
 use Rattle.coverage.proofs.Soundness.{sound}
 use Rattle.page.specs.Blend.{blend, inkOf}
-use Rattle.page.specs.Page.{over, dot, touch, clipped, painted, touches, inView, Lawful, Drawn}
+use Rattle.page.specs.Page.{dot, touch, clipped, painted, touches, inView, Lawful, Drawn}
 use Rattle.page.specs.declared.View.{View}
-use Rattle.page.proofs.Clip.{Inside, clip-ext}
+use Rattle.page.proofs.Clip.{clip-ext}
 use Rattle.page.proofs.Over.{over-ext}
 use Rattle.page.proofs.Paint.{drawn-ext}
 use Rattle.circles.specs.Circle.{discOn, ringOn}
@@ -82,38 +81,36 @@ module _ (w h : ℕ) (c : Clip) (v : ℕ) (s : Shape) (lawful : shapeFault s ≡
   unfolding touches touchCount
   count-touched = sum-ext h _ _ (λ y _. sum-ext w _ _ (λ x _. count x y))
 
--- ---- discs and rings by their own fields
+-- ---- discs and rings by their own fields, and the offsets of their centres
 
--- the two promises of a drawing function as one
-pub drawn-by : {w h : ℕ} {ink : ℕ → ℕ → ℕ} {l m : List ℕ} {t : ℕ} (n : ℕ → ℕ → ℕ) → m ≡ painted w ink n l → t ≡ touches w h n → Drawn w h ink n l m t
-drawn-by n e f = record { page = e; count = f }
+module _ {view : View} {size : ℕ} (w : Lawful view size) {ink : ℕ → ℕ → ℕ} {l m : List ℕ} {t : ℕ} where
+  -- a coverage that is the shape's on every page
+  on : (n : ℕ → ℕ → ℕ) (s : Shape) → ((x y : ℕ) → x ≤ 4095 → y ≤ 4095 → n x y ≡ shapeOn s x y)
+      → m ≡ painted (view .w) ink (inView view n) l
+      → t ≡ touches (view .w) (view .h) (inView view n)
+      → Drawn (view .w) (view .h) ink (inView view (shapeOn s)) l m t
+  on n s same page count =
+      drawn-ext (inView view (shapeOn s))
+      (clip-ext (view .x0) (view .y0) (view .x1) (view .y1) n (shapeOn s)
+      (λ x y i. same x y (omega (arith, i .right, w .x-most, w .w-most)) (omega (arith, i .bottom, w .y-most, w .h-most))))
+      (record { page = page; count = count })
 
-module _ (view : View) (size : ℕ) (w : Lawful view size) where
-  module _ {x y : ℕ} (i : Inside (view .x0) (view .y0) (view .x1) (view .y1) x y) where
-    x-most : x ≤ 4095
-    x-most = omega (arith, i .right, w .x-most, w .w-most)
-
-    y-most : y ≤ 4095
-    y-most = omega (arith, i .bottom, w .y-most, w .h-most)
-
-  pub disc-on : {ink : ℕ → ℕ → ℕ} {l m : List ℕ} {t : ℕ} (d : Disc) → shapeFault (disc d) ≡ 0
-      → Drawn (view .w) (view .h) ink (inView view (discOn (d .radius) (offsetOf (d .x)) (offsetOf (d .y)))) l m t
+  pub disc-on : {c : Point} (d : Disc) → shapeFault (disc d) ≡ 0 → c ≡ pointOf (d .x) (d .y)
+      → m ≡ painted (view .w) ink (inView view (discOn (d .radius) (c .x) (c .y))) l
+      → t ≡ touches (view .w) (view .h) (inView view (discOn (d .radius) (c .x) (c .y)))
       → Drawn (view .w) (view .h) ink (inView view (shapeOn (disc d))) l m t
   unfolding discOn
-  disc-on d z = drawn-ext (inView view (shapeOn (disc d))) (clip-ext (view .x0) (view .y0) (view .x1) (view .y1) (discOn (d .radius) (offsetOf (d .x)) (offsetOf (d .y))) (shapeOn (disc d)) same)
-    where
-      same : (x y : ℕ) → Inside (view .x0) (view .y0) (view .x1) (view .y1) x y → discOn (d .radius) (offsetOf (d .x)) (offsetOf (d .y)) x y ≡ shapeOn (disc d) x y
-      same x y i =
-          rw (← pixel-offset x (x-most i), ← pixel-offset y (y-most i))
-          (disc-drawn (in-range (pos x) (pixel-in x (x-most i))) (in-range (pos y) (pixel-in y (y-most i))) d (disc-lawful d z))
+  disc-on d z e =
+      on _ (disc d)
+      (λ x y p q. rw (e, ← pixel-offset x p, ← pixel-offset y q)
+      (disc-drawn (in-range (pos x) (pixel-in x p)) (in-range (pos y) (pixel-in y q)) d (disc-lawful d z)))
 
-  pub ring-on : {ink : ℕ → ℕ → ℕ} {l m : List ℕ} {t : ℕ} (g : Ring) → shapeFault (ring g) ≡ 0
-      → Drawn (view .w) (view .h) ink (inView view (ringOn (g .radius) (g .width) (offsetOf (g .x)) (offsetOf (g .y)))) l m t
+  pub ring-on : {c : Point} (g : Ring) → shapeFault (ring g) ≡ 0 → c ≡ pointOf (g .x) (g .y)
+      → m ≡ painted (view .w) ink (inView view (ringOn (g .radius) (g .width) (c .x) (c .y))) l
+      → t ≡ touches (view .w) (view .h) (inView view (ringOn (g .radius) (g .width) (c .x) (c .y)))
       → Drawn (view .w) (view .h) ink (inView view (shapeOn (ring g))) l m t
   unfolding ringOn discOn
-  ring-on g z = drawn-ext (inView view (shapeOn (ring g))) (clip-ext (view .x0) (view .y0) (view .x1) (view .y1) (ringOn (g .radius) (g .width) (offsetOf (g .x)) (offsetOf (g .y))) (shapeOn (ring g)) same)
-    where
-      same : (x y : ℕ) → Inside (view .x0) (view .y0) (view .x1) (view .y1) x y → ringOn (g .radius) (g .width) (offsetOf (g .x)) (offsetOf (g .y)) x y ≡ shapeOn (ring g) x y
-      same x y i =
-          rw (← pixel-offset x (x-most i), ← pixel-offset y (y-most i))
-          (ring-drawn (in-range (pos x) (pixel-in x (x-most i))) (in-range (pos y) (pixel-in y (y-most i))) g (ring-lawful g z))
+  ring-on g z e =
+      on _ (ring g)
+      (λ x y p q. rw (e, ← pixel-offset x p, ← pixel-offset y q)
+      (ring-drawn (in-range (pos x) (pixel-in x p)) (in-range (pos y) (pixel-in y q)) g (ring-lawful g z)))

@@ -1,5 +1,4 @@
 -- The claim about a list: what is answered, what is left on the page, and how far a byte may be from the exact blend.
-use mathlib.Core.Path.{_≡_}
 use mathlib.Core.List.{List}
 use Prim.Native.Nat.{ℕ, _+_, _*_, _<_}
 use lib.ListN.{getD}

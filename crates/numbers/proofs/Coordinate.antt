@@ -1,21 +1,21 @@
 -- Laws of coordinates, of their offsets and of the two bytes of a 16-bit number.
 use mathlib.Core.Path.{_≡_, refl, sym, _∙_, ap, subst}
 use mathlib.Core.Bool.{Bool, true, false, cond, _&&_}
-use mathlib.Core.List.{List, [], _∷_}
+use mathlib.Core.List.{[], _∷_}
 use mathlib.Core.Logic.{⊎-elim}
-use Prim.Native.Nat.{ℕ, zero, suc, _+_, _*_, _-_, _/_, _%_, _≤_, _<_}
+use Prim.Native.Nat.{ℕ, suc, _+_, _*_, _-_, _/_, _%_, _≤_, _<_}
 use native.Mathlib.Omega.{arith}
 use borrow.Author.Tests.{lt-ltb, le-ltb, le-leb, lt-leb}
 use lib.Dec.{T, ltb, leb}
-use lib.IntN.{ℤ, pos, negsuc, natAbs, subℕ, _+ℤ_, _-ℤ_}
-use lib.Signed.{leZ, ltZ, nonNeg, mag, pos-natAbs}
+use lib.IntN.{ℤ, pos, negsuc, natAbs, _+ℤ_, _-ℤ_}
+use lib.Signed.{leZ, ltZ, nonNeg, pos-natAbs}
 use mir.Syntax.{w16}
 use mir.Val.{SFits, toZ, ofZ}
 use mir.Facts.{toZ-ofZ, ofZ-toZ}
 use Rattle.numbers.specs.Order.{dist}
 use Rattle.numbers.proofs.Order.{lt-or-le}
 use Rattle.numbers.specs.Coordinate.{inRange, offsetOf, bitsOf, signedOf, wordOf, bytesOf}
-use Rattle.numbers.proofs.Integer.{Diff, plus, minus, diff-of, diff-pos, diff-add, diff-minus, diff-shift, diff-unique, diff-eq, diff-le, le-diff, diff-abs, is-above, is-below, nonNeg-diff, sfits-diff}
+use Rattle.numbers.proofs.Integer.{Diff, plus, minus, diff-of, diff-pos, diff-add, diff-minus, diff-shift, diff-unique, diff-eq, diff-le, le-diff, diff-abs, is-below, nonNeg-diff, sfits-diff}
 
 -- ---- the range
 
@@ -83,9 +83,6 @@ module _ {x y : ℤ} (p : InRange x) (q : InRange y) where
 
   pub offset-dist : natAbs (x -ℤ y) ≡ dist (offsetOf x) (offsetOf y)
   offset-dist = diff-abs offset-diff
-
-  pub offset-inj : offsetOf x ≡ offsetOf y → x ≡ y
-  offset-inj e = diff-unique (p .diff) (q .diff) (omega arith)
 
 -- ---- 16 bits: the definitions are the machine's own
 bits-machine : (z : ℤ) → bitsOf z ≡ ofZ w16 z

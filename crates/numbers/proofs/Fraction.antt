@@ -1,7 +1,7 @@
 -- Laws of fractions.
-use mathlib.Core.Path.{_≡_, refl, ap, ap₂, subst}
-use Prim.Native.Nat.{ℕ, _+_, _*_, _≤_, _<_}
-use native.Mathlib.Nat.{mul-comm, add-comm, mul-assoc, le-of-mul-le-mul-left, mul-le-mul-left}
+use mathlib.Core.Path.{_≡_, ap, ap₂, subst}
+use Prim.Native.Nat.{ℕ, _*_, _<_}
+use native.Mathlib.Nat.{mul-comm, add-comm, le-of-mul-le-mul-left, mul-le-mul-left}
 use native.Mathlib.Omega.{arith}
 use Rattle.numbers.specs.Fraction.{Frac, _over_, _⊕_, _≼_, Within}
 use Rattle.numbers.proofs.Order.{ring}

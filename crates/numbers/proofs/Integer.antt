@@ -1,12 +1,12 @@
 -- Integers as differences of naturals. `Diff z a b` says that z is a − b. Sums, products and negations of differences are differences
 -- again, so an equation or an order of integers comes to one of naturals: `diff-unique p q (omega arith)`.
-use mathlib.Core.Path.{_≡_, refl, sym, _∙_, ap, subst}
+use mathlib.Core.Path.{_≡_, ap, subst}
 use mathlib.Core.Bool.{Bool, true, false, not, cond}
-use Prim.Native.Nat.{ℕ, zero, suc, _+_, _*_, _-_, _^_, _≤_, _<_, min}
+use Prim.Native.Nat.{ℕ, zero, suc, _+_, _*_, _-_, _^_, _≤_, _<_}
 use native.Mathlib.Omega.{arith}
-use lib.Dec.{T, leb, ltb, ltb→lt, nltb→le, leb→le, le→leb, lt→ltb}
+use lib.Dec.{T, ltb, ltb→lt, nltb→le, leb→le, le→leb}
 use lib.IntN.{ℤ, pos, negsuc, negℤ, natAbs, subℕ, _+ℤ_, _-ℤ_, _*ℤ_}
-use lib.Signed.{mag, leZ, ltZ, nonNeg, ltZ-no}
+use lib.Signed.{mag, leZ, nonNeg}
 use mir.Syntax.{Width}
 use mir.Val.{SFits, hbits}
 use Rattle.numbers.specs.Order.{dist}
@@ -103,11 +103,6 @@ plus-diff (below p) = omega arith
 pub diff-abs : {z : ℤ} {a b : ℕ} → Diff z a b → natAbs z ≡ dist a b
 diff-abs (above p) = omega arith
 diff-abs (below p) = omega arith
-
--- one of the two parts is 0
-pub one-part : (z : ℤ) → min (plus z) (minus z) ≡ 0
-one-part (pos n) = omega arith
-one-part (negsuc n) = omega arith
 
 pub nonNeg-diff : {z : ℤ} {a b : ℕ} → Diff z a b → b ≤ a → T (nonNeg z)
 nonNeg-diff (above p) h = tt

@@ -1,12 +1,11 @@
 -- Cases and orders of naturals. `omega` multiplies products out and takes each monomial for an unknown, so an order that is not
 -- linear is proved by handing it the product of two facts.
-use mathlib.Core.Path.{_≡_, refl, ap, subst}
+use mathlib.Core.Path.{_≡_, subst}
 use mathlib.Core.Logic.{_⊎_, inl, inr, ⊎-elim}
-use Prim.Native.Nat.{ℕ, zero, suc, _+_, _*_, _-_, _≤_, _<_, min}
+use Prim.Native.Nat.{ℕ, _+_, _*_, _≤_, _<_}
 use native.Mathlib.Nat.{le-dest, mul-le-mul, lt-of-not-le, mul-add, add-mul, mul-assoc, mul-comm, mul-left-comm, one-mul, mul-one}
 use native.Mathlib.Decide.{decLe}
 use native.Mathlib.Omega.{arith}
-use Rattle.numbers.specs.Order.{dist}
 
 -- products in one order, for both sides of an equation that omega closes
 pub ruleset ring = (one-mul, mul-one, mul-add, add-mul, mul-assoc, mul-comm, mul-left-comm)

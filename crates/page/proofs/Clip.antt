@@ -95,23 +95,6 @@ Either a b c = ((a ≡ 0) × (b ≡ c)) ⊎ ((b ≡ 0) × (a ≡ c))
 abbrev pub Join : (ℕ → ℕ → ℕ) → (ℕ → ℕ → ℕ) → (ℕ → ℕ → ℕ) → Type 0
 Join n₁ n₂ n = (x y : ℕ) → Either (n₁ x y) (n₂ x y) (n x y)
 
-pub clip-join : (x0 y0 x1 y1 : ℕ) (n₁ n₂ n : ℕ → ℕ → ℕ) → Join n₁ n₂ n
-    → Join (clipped x0 y0 x1 y1 n₁) (clipped x0 y0 x1 y1 n₂) (clipped x0 y0 x1 y1 n)
-clip-join x0 y0 x1 y1 n₁ n₂ n j x y = ⊎-elim inside outside (in-or-out x0 y0 x1 y1 x y)
-  where
-    at : (ℕ → ℕ → ℕ) → ℕ
-    at m = clipped x0 y0 x1 y1 m x y
-
-    inside : Inside x0 y0 x1 y1 x y → Either (at n₁) (at n₂) (at n)
-    inside i =
-        let is : (m : ℕ → ℕ → ℕ) → at m ≡ m x y = λ m. clip-in x0 y0 x1 y1 m x y i in
-        ⊎-elim (λ k. inl (is n₁ ∙ k .0, is n₂ ∙ k .1 ∙ sym (is n))) (λ k. inr (is n₂ ∙ k .0, is n₁ ∙ k .1 ∙ sym (is n))) (j x y)
-
-    outside : Outside x0 y0 x1 y1 x y → Either (at n₁) (at n₂) (at n)
-    outside o =
-        let is : (m : ℕ → ℕ → ℕ) → at m ≡ 0 = λ m. clip-out x0 y0 x1 y1 m x y o in
-        inl (is n₁, is n₂ ∙ sym (is n))
-
 -- a clip in two parts: a pixel of it is in one of them alone, and one outside it is in neither
 clip-parts : (x0 y0 x1 y1 a b c d e f g h : ℕ) (n : ℕ → ℕ → ℕ) (x y : ℕ)
     → (Inside x0 y0 x1 y1 x y → (Inside a b c d x y × Outside e f g h x y) ⊎ (Outside a b c d x y × Inside e f g h x y))

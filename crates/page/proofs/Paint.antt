@@ -40,7 +40,7 @@ column-of w y k h₁ h₂ =
 byte-of : (w y k : ℕ) → k / w ≡ y → y * w + k % w ≡ k
 byte-of w y k e = ap (λ (q : ℕ). q * w + k % w) (sym e) ∙ div-add-mod' k w
 
--- ---- a dot of ink
+-- ---- one pixel with ink
 
 pub dot-none : (ink : ℕ → ℕ → ℕ) (u : ℕ) → dot ink 0 u ≡ u
 unfolding dot

@@ -17,9 +17,9 @@ pub record Coverage (n d : ℕ) : Type 0 where
   pub part : n ≤ d
   pub most : d ≤ 2 ^ 30
 
--- m is 2^55 over d, rounded up: by it a quotient by 2·d is a product
+-- m is the least whole number above 2^55 over d: by it a quotient by 2·d is a product
 pub record Scale (d m : ℕ) : Type 0 where
-  pub least : 2 ^ 55 ≤ m * d
+  pub least : 2 ^ 55 < m * d
   pub most : m * d ≤ 2 ^ 55 + d
 
 -- x over 2·d is the blend, before it is cut to a whole number

@@ -1,12 +1,11 @@
 -- The refusals of a shape by the offsets of its coordinates, and what a shape without one has.
-use mathlib.Core.Path.{_≡_, refl, sym, _∙_, ap, ap₂, subst}
+use mathlib.Core.Path.{_≡_, refl, sym, _∙_, ap, ap₂}
 use mathlib.Core.Bool.{Bool, true, false, not, cond, _&&_, _||_}
-use mathlib.Core.Logic.{_⊎_, inl, inr, ⊎-elim}
-use mathlib.Core.List.{[], _∷_}
+use mathlib.Core.Logic.{_⊎_, inl, inr}
 use Prim.Native.Nat.{ℕ, _+_, _≤_, _<_}
 use native.Mathlib.Omega.{arith}
 use borrow.Author.Tests.{lt-ltb, le-ltb, eq-eqb, ne-eqb, not-false, ltb-false}
-use lib.Dec.{T, ltb, leb, eqb}
+use lib.Dec.{T, ltb, eqb}
 use lib.IntN.{ℤ}
 use lib.Signed.{leZ}
 use mir.Syntax.{w16}
@@ -17,7 +16,7 @@ use Rattle.numbers.specs.Coordinate.{inRange, offsetOf}
 use Rattle.numbers.proofs.Order.{lt-or-le, eq-or-ne}
 use Rattle.numbers.proofs.Integer.{diff-le, le-diff}
 use Rattle.numbers.proofs.Coordinate.{InRange, in-range, range-offset}
-use Rattle.shapes.specs.Limits.{first, outside, same, offRange, coincide, offRadius, offWidth, shapeFault}
+use Rattle.shapes.specs.Limits.{outside, same, offRange, coincide, offRadius, offWidth, shapeFault}
 use Rattle.shapes.specs.Offsets.{pointOf, endsOf}
 use Rattle.shapes.specs.declared.Point.{Point}
 use Rattle.shapes.specs.declared.Ends.{Ends}

@@ -1,18 +1,14 @@
 -- "Turning down": which numbers are refused, and in which order they are tried.
-use mathlib.Core.Bool.{Bool, true, false, not, cond, _&&_, _||_}
+use mathlib.Core.Bool.{Bool, false, not, cond, _&&_, _||_}
 use mathlib.Core.List.{List, [], _∷_}
 use Prim.Native.Nat.{ℕ}
-use lib.Dec.{ltb, leb, eqb}
-use lib.IntN.{ℤ, pos, negsuc}
+use lib.Dec.{ltb, leb}
+use lib.IntN.{ℤ}
 use lib.Signed.{leZ}
 use Rattle.numbers.specs.Coordinate.{inRange}
-use Rattle.shapes.specs.declared.Line.{Line}
-use Rattle.shapes.specs.declared.Disc.{Disc}
-use Rattle.shapes.specs.declared.Ring.{Ring}
 use Rattle.shapes.specs.declared.Shape.{Shape}
 use Rattle.shapes.specs.declared.Shape.the-variants.{Line as line, Disc as disc, Ring as ring}
 use Rattle.shapes.specs.declared.Clip.{Clip}
-use Rattle.shapes.specs.declared.Setting.{Setting}
 use Rattle.shapes.specs.declared.Setting.the-variants.{Clip as clip, Level as level}
 use Rattle.shapes.specs.declared.Record.{Record}
 use Rattle.shapes.specs.declared.Record.the-variants.{End as end, Setting as setting, Shape as shape}

@@ -1,28 +1,49 @@
 use mathlib.Core.Path.{_≡_}
+use mathlib.Core.Bool.{true}
 use native.Mathlib.Omega.{arith}
 use mir.Syntax.{w16}
 use mir.Val.{toZ, ofZ}
+use Rattle.numbers.specs.Coordinate.{inRange}
 use Rattle.shapes.specs.Limits.{shapeFault}
-use Rattle.coverage.specs.Coverage.{shareOf}
+use Rattle.coverage.specs.Coverage.{shareOf, queried}
+use Rattle.coverage.specs.declared.Share.{Share}
+use Rattle.coverage.specs.declared.Answer.the-variants.{Covered}
 use Rattle.shapes.specs.declared.Shape.the-variants.{Line as line, Disc as disc, Ring as ring}
 use Rattle.coverage.proofs.Query.{refused, covered, lawful}
 use borrow.Author.Needs.{needs}
 use Rattle.coverage.proofs.coverage.Statement.{statement}
 use Rattle.coverage.proofs.coverage.Tie as tie
 
+-- a query without a refusal: the shape is lawful and the pixel in range
+passed : (c : tie.Else1)
+    → let a = c .before .before .args in
+    (shapeFault (a .shape) ≡ 0) × (inRange (toZ w16 (ofZ w16 (a .x))) ≡ true) × (inRange (toZ w16 (ofZ w16 (a .y))) ≡ true)
+passed c =
+    let s = c .before .before in
+    lawful (s .args .shape) (s .fits .x) (s .fits .y) (c .before .query-fault .ensures) (omega arith)
+
+-- and its answer
+answered : (c : tie.Else1) (share : Share)
+    → let a = c .before .before .args in
+    share ≡ shareOf (a .shape) (toZ w16 (ofZ w16 (a .x))) (toZ w16 (ofZ w16 (a .y))) → Covered share ≡ queried (a .shape) (a .x) (a .y)
+answered c =
+    let s = c .before .before in
+    covered (s .args .shape) (s .fits .x) (s .fits .y) (c .before .query-fault .ensures) (omega arith)
+
 query-fault-requires : tie.Need-query-fault-requires
 query-fault-requires c κs = search needs
 
 returns : tie.Need-returns
-returns c = (refused (c .before .before .args .shape) (c .before .before .fits .x) (c .before .before .fits .y) (c .before .query-fault .ensures) (omega arith))
+returns c =
+    let s = c .before .before in
+    refused (s .args .shape) (s .fits .x) (s .fits .y) (c .before .query-fault .ensures) (omega arith)
 
 enum-known-shape : tie.Need-enum-known-shape
 enum-known-shape c = search needs
 
 line-share-requires : tie.Need-line-share-requires
 line-share-requires c κs =
-    let a = c .before .before .before .before .before .args in
-    let q = lawful (a .shape) (c .before .before .before .before .before .fits .x) (c .before .before .before .before .before .fits .y) (c .before .before .before .before .query-fault .ensures) (omega arith) in
+    let q = passed (c .before .before .before) in
     let e : shapeFault (line (c .before .shape .given .0 .0)) ≡ 0 = cc in
     (e, q .1, q .2)
 
@@ -31,8 +52,7 @@ enum-known-shape-2 c = search needs
 
 disc-share-requires : tie.Need-disc-share-requires
 disc-share-requires c κs =
-    let a = c .before .before .before .before .before .args in
-    let q = lawful (a .shape) (c .before .before .before .before .before .fits .x) (c .before .before .before .before .before .fits .y) (c .before .before .before .before .query-fault .ensures) (omega arith) in
+    let q = passed (c .before .before .before) in
     let e : shapeFault (disc (c .before .shape2 .given .0 .0)) ≡ 0 = cc in
     (e, q .1, q .2)
 
@@ -41,28 +61,18 @@ enum-known-shape-3 c = search needs
 
 ring-share-requires : tie.Need-ring-share-requires
 ring-share-requires c κs =
-    let a = c .before .before .before .before .before .args in
-    let q = lawful (a .shape) (c .before .before .before .before .before .fits .x) (c .before .before .before .before .before .fits .y) (c .before .before .before .before .query-fault .ensures) (omega arith) in
+    let q = passed (c .before .before .before) in
     let e : shapeFault (ring (c .before .shape3 .given .0 .0)) ≡ 0 = cc in
     (e, q .1, q .2)
 
 returns-2 : tie.Need-returns-2
-returns-2 c =
-    let a = c .before .before .before .before .before .before .args in
-    let g : c .line-share .result ≡ shareOf (a .shape) (toZ w16 (ofZ w16 (a .x))) (toZ w16 (ofZ w16 (a .y))) = cc in
-    covered (a .shape) (c .before .before .before .before .before .before .fits .x) (c .before .before .before .before .before .before .fits .y) (c .before .before .before .before .before .query-fault .ensures) (omega arith) (c .line-share .result) g
+returns-2 c = answered (c .before .before .before .before) (c .line-share .result) (cc)
 
 returns-3 : tie.Need-returns-3
-returns-3 c =
-    let a = c .before .before .before .before .before .before .args in
-    let g : c .disc-share .result ≡ shareOf (a .shape) (toZ w16 (ofZ w16 (a .x))) (toZ w16 (ofZ w16 (a .y))) = cc in
-    covered (a .shape) (c .before .before .before .before .before .before .fits .x) (c .before .before .before .before .before .before .fits .y) (c .before .before .before .before .before .query-fault .ensures) (omega arith) (c .disc-share .result) g
+returns-3 c = answered (c .before .before .before .before) (c .disc-share .result) (cc)
 
 returns-4 : tie.Need-returns-4
-returns-4 c =
-    let a = c .before .before .before .before .before .before .args in
-    let g : c .ring-share .result ≡ shareOf (a .shape) (toZ w16 (ofZ w16 (a .x))) (toZ w16 (ofZ w16 (a .y))) = cc in
-    covered (a .shape) (c .before .before .before .before .before .before .fits .x) (c .before .before .before .before .before .before .fits .y) (c .before .before .before .before .before .query-fault .ensures) (omega arith) (c .ring-share .result) g
+returns-4 c = answered (c .before .before .before .before) (c .ring-share .result) (cc)
 
 pub coverage-spec : {M : Type 1} → statement M
 coverage-spec =

@@ -1,4 +1,6 @@
-use mathlib.Core.Path.{_≡_, subst}
+use mathlib.Core.Path.{_≡_}
+use mathlib.Core.List.{List}
+use Prim.Native.Nat.{ℕ}
 use Rattle.shapes.specs.Limits.{shapeFault}
 use Rattle.shapes.specs.declared.Shape.{Shape}
 use Rattle.shapes.specs.declared.Shape.the-variants.{Line as line, Disc as disc, Ring as ring}
@@ -9,6 +11,14 @@ use Rattle.draw.specs.Draw.{shapeOn}
 use borrow.Author.Needs.{needs}
 use Rattle.draw.proofs.draw_lawful.Statement.{statement}
 use Rattle.draw.proofs.draw_lawful.Tie as tie
+
+-- what is drawn of the case that the match finds is drawn of the shape
+found : (c : tie.Start) {s : Shape} {m : List ℕ} {t : ℕ}
+    → let a = c .args in
+    s ≡ a .shape
+    → Drawn (a .view .w) (a .view .h) (inkOf (a .level) (drawnD s)) (inView (a .view) (shapeOn s)) (a .page .now) m t
+    → Drawn (a .view .w) (a .view .h) (inkOf (a .level) (drawnD (a .shape))) (inView (a .view) (shapeOn (a .shape))) (a .page .now) m t
+found c e d = rw e at d
 
 enum-known-shape : tie.Need-enum-known-shape
 enum-known-shape c = search needs
@@ -33,9 +43,9 @@ same-length c = search needs
 
 returns : tie.Need-returns
 returns c =
-    let a = c .before .before .before .before .before .before .before .before .args in
-    let e : line (c .before .before .before .before .before .shape .given .0 .0) ≡ a .shape = cc in
-    subst (λ (s : Shape). Drawn (a .view .w) (a .view .h) (inkOf (a .level) (drawnD s)) (inView (a .view) (shapeOn s)) (a .page .now) (c .before .before .draw-line .last .0) (c .before .before .draw-line .result)) e (c .before .before .draw-line .ensures)
+    let s = c .before .before .before .before .before .before .before .before in
+    let e : line (c .before .before .before .before .before .shape .given .0 .0) ≡ s .args .shape = cc in
+    found s e (c .before .before .draw-line .ensures)
 
 same-length-2 : tie.Need-same-length-2
 same-length-2 c = search needs
@@ -43,9 +53,9 @@ same-length-2 c = search needs
 returns-2 : tie.Need-returns-2
 unfolding drawnD
 returns-2 c =
-    let a = c .before .before .before .before .before .before .before .before .args in
-    let e : disc (c .before .before .before .before .before .shape2 .given .0 .0) ≡ a .shape = cc in
-    subst (λ (s : Shape). Drawn (a .view .w) (a .view .h) (inkOf (a .level) (drawnD s)) (inView (a .view) (shapeOn s)) (a .page .now) (c .before .before .draw-disc .last .0) (c .before .before .draw-disc .result)) e (c .before .before .draw-disc .ensures)
+    let s = c .before .before .before .before .before .before .before .before in
+    let e : disc (c .before .before .before .before .before .shape2 .given .0 .0) ≡ s .args .shape = cc in
+    found s e (c .before .before .draw-disc .ensures)
 
 same-length-3 : tie.Need-same-length-3
 same-length-3 c = search needs
@@ -53,9 +63,9 @@ same-length-3 c = search needs
 returns-3 : tie.Need-returns-3
 unfolding drawnD
 returns-3 c =
-    let a = c .before .before .before .before .before .before .before .before .args in
-    let e : ring (c .before .before .before .before .before .shape3 .given .0 .0) ≡ a .shape = cc in
-    subst (λ (s : Shape). Drawn (a .view .w) (a .view .h) (inkOf (a .level) (drawnD s)) (inView (a .view) (shapeOn s)) (a .page .now) (c .before .before .draw-ring .last .0) (c .before .before .draw-ring .result)) e (c .before .before .draw-ring .ensures)
+    let s = c .before .before .before .before .before .before .before .before in
+    let e : ring (c .before .before .before .before .before .shape3 .given .0 .0) ≡ s .args .shape = cc in
+    found s e (c .before .before .draw-ring .ensures)
 
 pub draw-lawful-spec : {M : Type 1} → statement M
 draw-lawful-spec =

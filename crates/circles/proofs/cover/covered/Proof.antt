@@ -10,29 +10,17 @@ lesser-requires c κs = search needs
 greater-requires : tie.Need-greater-requires
 greater-requires c κs = search needs
 
-mul-wide : tie.Need-mul-wide
-mul-wide c = search needs
-
-element-copy-out-wide : tie.Need-element-copy-out-wide
-element-copy-out-wide c = search needs
-
-wide-requires : tie.Need-wide-requires
-wide-requires c κs = search needs
+height-requires : tie.Need-height-requires
+height-requires c κs = search needs
 
 chord-of-requires : tie.Need-chord-of-requires
 chord-of-requires c κs = search needs
 
-add-wide : tie.Need-add-wide
-add-wide c = search needs
+add-height : tie.Need-add-height
+add-height c = search needs
 
-mul-wide-2 : tie.Need-mul-wide-2
-mul-wide-2 c = search needs
-
-element-copy-out-wide-2 : tie.Need-element-copy-out-wide-2
-element-copy-out-wide-2 c = search needs
-
-wide-requires-2 : tie.Need-wide-requires-2
-wide-requires-2 c κs = search needs
+height-requires-2 : tie.Need-height-requires-2
+height-requires-2 c κs = search needs
 
 chord-of-requires-2 : tie.Need-chord-of-requires-2
 chord-of-requires-2 c κs = search needs
@@ -50,14 +38,10 @@ covered-spec =
     (tie.spec
     lesser-requires
     greater-requires
-    mul-wide
-    element-copy-out-wide
-    wide-requires
+    height-requires
     chord-of-requires
-    add-wide
-    mul-wide-2
-    element-copy-out-wide-2
-    wide-requires-2
+    add-height
+    height-requires-2
     chord-of-requires-2
     add-result
     returns)

@@ -9,32 +9,26 @@ use Rattle.circles.proofs.cover.covered_width.Statement.{statement}
 use Rattle.circles.proofs.cover.covered_width.Tie as tie
 
 abbrev Inv-loop : tie.InvT-loop
-Inv-loop hs b here i₀ i = i ≤ 255
+Inv-loop hs b i₀ i = i ≤ 255
 
 abbrev μ-loop : tie.MeasureT-loop
-μ-loop hs b here i₀ i = 255 - i
+μ-loop hs b i₀ i = 255 - i
 
-mul-wide : tie.Need-mul-wide Inv-loop μ-loop
-mul-wide c = search needs
-
-element-copy-out-wide : tie.Need-element-copy-out-wide Inv-loop μ-loop
-element-copy-out-wide c = search needs
-
-wide-requires : tie.Need-wide-requires Inv-loop μ-loop
-wide-requires c κs = search needs
+height-requires : tie.Need-height-requires Inv-loop μ-loop
+height-requires c κs = search needs
 
 add-i : tie.Need-add-i Inv-loop μ-loop
-add-i c = omega (arith, c .before .before .pre .0 .most (c .before .before .args .b))
+add-i c = omega (arith, c .before .pre .0 .most (c .before .args .b))
 
 loop-holds : tie.Need-loop-holds Inv-loop μ-loop
-loop-holds c = omega (arith, c .before .before .pre .0 .most (c .before .before .args .b))
+loop-holds c = omega (arith, c .before .pre .0 .most (c .before .args .b))
 
 is-clear-requires : tie.Need-is-clear-requires Inv-loop μ-loop
 is-clear-requires c κs = search needs
 
 returns : tie.Need-returns Inv-loop μ-loop
 returns c =
-    let s = c .before .before .before .before .before .before in
+    let s = c .before .before .before .before .before in
     let i = c .before .before .before .loop .i in
     let here = chords-clear (s .pre .0) i (s .args .b) (leb-true _ _ (sym (c .before .is-clear .ensures) ∙ c .if1 .taken)) in
     (omega arith, λ a h. omega (arith, here, chords-falls (s .pre .0) i a (s .args .b) h))
@@ -50,7 +44,7 @@ loop-again c = search needs
 
 returns-2 : tie.Need-returns-2 Inv-loop μ-loop
 returns-2 c =
-    let s = c .before .before .before .before in
+    let s = c .before .before .before in
     (omega arith, λ a h. chords-far (s .pre .0) a (s .args .b) (omega arith))
 
 pub covered-width-spec : {M : Type 1} → statement M
@@ -59,9 +53,7 @@ covered-width-spec =
     (tie.spec
     Inv-loop
     μ-loop
-    mul-wide
-    element-copy-out-wide
-    wide-requires
+    height-requires
     add-i
     loop-holds
     is-clear-requires

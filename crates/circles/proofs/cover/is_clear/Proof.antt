@@ -5,14 +5,8 @@ use Rattle.circles.proofs.cover.is_clear.Tie as tie
 lesser-requires : tie.Need-lesser-requires
 lesser-requires c κs = search needs
 
-mul-wide : tie.Need-mul-wide
-mul-wide c = search needs
-
-element-copy-out-wide : tie.Need-element-copy-out-wide
-element-copy-out-wide c = search needs
-
-wide-requires : tie.Need-wide-requires
-wide-requires c κs = search needs
+height-requires : tie.Need-height-requires
+height-requires c κs = search needs
 
 greater-requires : tie.Need-greater-requires
 greater-requires c κs = search needs
@@ -25,12 +19,4 @@ returns c = cc
 
 pub is-clear-spec : {M : Type 1} → statement M
 is-clear-spec =
-    tie.close
-    (tie.spec
-    lesser-requires
-    mul-wide
-    element-copy-out-wide
-    wide-requires
-    greater-requires
-    mul-result
-    returns)
+    tie.close (tie.spec lesser-requires height-requires greater-requires mul-result returns)

@@ -11,25 +11,19 @@ use Rattle.circles.proofs.cover.whole_width.Statement.{statement}
 use Rattle.circles.proofs.cover.whole_width.Tie as tie
 
 abbrev Inv-loop : tie.InvT-loop
-Inv-loop hs b above i₀ i = i ≤ 255
+Inv-loop hs b i₀ i = i ≤ 255
 
 abbrev μ-loop : tie.MeasureT-loop
-μ-loop hs b above i₀ i = i
+μ-loop hs b i₀ i = i
 
-add-above : tie.Need-add-above Inv-loop μ-loop
-add-above c = search needs
+add-height : tie.Need-add-height Inv-loop μ-loop
+add-height c = search needs
 
-mul-wide : tie.Need-mul-wide Inv-loop μ-loop
-mul-wide c = search needs
-
-element-copy-out-wide : tie.Need-element-copy-out-wide Inv-loop μ-loop
-element-copy-out-wide c = search needs
-
-wide-requires : tie.Need-wide-requires Inv-loop μ-loop
-wide-requires c κs = search needs
+height-requires : tie.Need-height-requires Inv-loop μ-loop
+height-requires c κs = search needs
 
 loop-holds : tie.Need-loop-holds Inv-loop μ-loop
-loop-holds c = omega (arith, c .before .before .pre .0 .most (c .before .before .args .b + 1))
+loop-holds c = omega (arith, c .before .pre .0 .most (c .before .args .b + 1))
 
 sub-is-whole : tie.Need-sub-is-whole Inv-loop μ-loop
 sub-is-whole c = search needs
@@ -39,7 +33,7 @@ is-whole-requires c κs = search needs
 
 returns : tie.Need-returns Inv-loop μ-loop
 returns c =
-    let s = c .before .before .before .before .before .before in
+    let s = c .before .before .before .before .before in
     let i = c .before .before .before .loop .i in
     let here = chords-whole (s .pre .0) (i - 1) (s .args .b) (leb-true _ _ (sym (c .before .is-whole .ensures) ∙ c .if1 .taken)) in
     let Y = at (s .args .hs .now) in
@@ -63,10 +57,8 @@ whole-width-spec =
     (tie.spec
     Inv-loop
     μ-loop
-    add-above
-    mul-wide
-    element-copy-out-wide
-    wide-requires
+    add-height
+    height-requires
     loop-holds
     sub-is-whole
     is-whole-requires

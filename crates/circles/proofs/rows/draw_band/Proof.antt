@@ -1,4 +1,5 @@
 -- The three stretches never meet, and together they are the band.
+use Prim.Native.Nat.{_+_, _≤_}
 use native.Mathlib.Omega.{arith}
 use Rattle.page.proofs.Paint.{drawn-count}
 use Rattle.circles.specs.Row.{at, betweenOn}
@@ -20,27 +21,21 @@ draw-edge-requires-2 c κs =
     let s = first .before .before .before in
     (ready-after (middle .draw-whole .ensures) (ready-after (first .draw-edge .ensures) (s .pre .0)), omega arith)
 
-add-result : tie.Need-add-result
-add-result c =
-    let last = c .before .before in
-    let middle = last .before .before .before .before in
+-- no stretch touches more pixels than a page has
+few : (c : tie.After-draw-edge2)
+    → let middle = c .before .before .before .before in
+    middle .before .before .before .before .draw-edge .result + middle .draw-whole .result + c .draw-edge2 .result ≤ 3145728
+few c =
+    let middle = c .before .before .before .before in
     let first = middle .before .before .before .before in
     let law = first .before .before .before .pre .0 .lawful in
-    let t = drawn-count law (first .draw-edge .ensures) in
-    let u = drawn-count law (middle .draw-whole .ensures) in
-    let v = drawn-count law (last .draw-edge2 .ensures) in
-    omega arith
+    omega (arith, drawn-count law (first .draw-edge .ensures), drawn-count law (middle .draw-whole .ensures), drawn-count law (c .draw-edge2 .ensures))
+
+add-result : tie.Need-add-result
+add-result c = omega (arith, few (c .before .before))
 
 add-result-2 : tie.Need-add-result-2
-add-result-2 c =
-    let last = c .before .before in
-    let middle = last .before .before .before .before in
-    let first = middle .before .before .before .before in
-    let law = first .before .before .before .pre .0 .lawful in
-    let t = drawn-count law (first .draw-edge .ensures) in
-    let u = drawn-count law (middle .draw-whole .ensures) in
-    let v = drawn-count law (last .draw-edge2 .ensures) in
-    omega arith
+add-result-2 c = omega (arith, few (c .before .before))
 
 same-length : tie.Need-same-length
 same-length c = search needs

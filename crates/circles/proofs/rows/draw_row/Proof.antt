@@ -1,9 +1,19 @@
--- The row is measured by its distance from the centre.
+-- The row is measured by its distance from the centre; outside its bands it has nothing.
+use Prim.Native.Nat.{_+_}
 use native.Mathlib.Omega.{arith}
-use Rattle.circles.specs.Row.{at}
+use Rattle.page.proofs.Paint.{drawn-count}
+use Rattle.coverage.specs.Circle.{apart}
+use Rattle.circles.specs.Row.{at, Measured}
+use Rattle.circles.proofs.Row.{ready-after, solid-band, left-band, right-band, solid-row, hollow-row}
 use borrow.Author.Needs.{needs}
 use Rattle.circles.proofs.rows.draw_row.Statement.{statement}
 use Rattle.circles.proofs.rows.draw_row.Tie as tie
+
+-- the widths, by the row's own distance
+measured : (c : tie.After-measure)
+    → let a = c .before .before .before .args in
+    Measured (at (a .outer .now)) (at (a .inner .now)) (apart (a .ring .cy) (a .y + 4096)) (c .measure .result)
+measured c = rw (c .before .apart-of .ensures) at (c .measure .ensures)
 
 add-apart-of : tie.Need-add-apart-of
 add-apart-of c = search needs
@@ -16,29 +26,98 @@ measure-requires c κs =
     let s = c .before .before in
     (s .pre .0 .nested, omega (arith, s .pre .0 .near .rows (s .args .y) (omega arith) (omega arith)))
 
-draw-solid-row-requires : tie.Need-draw-solid-row-requires
-draw-solid-row-requires c κs =
-    let m = c .before .before .before in
-    let s = m .before .before .before in
-    (s .pre .0, (s .pre .1 .0, s .pre .1 .1, rw (m .before .apart-of .ensures) at (m .measure .ensures), c .before .if1 .taken))
+left-at-requires : tie.Need-left-at-requires
+left-at-requires c κs = search needs
 
-draw-hollow-row-requires : tie.Need-draw-hollow-row-requires
-draw-hollow-row-requires c κs =
-    let m = c .before .before .before in
-    let s = m .before .before .before in
-    (s .pre .0, (s .pre .1 .0, s .pre .1 .1, rw (m .before .apart-of .ensures) at (m .measure .ensures)))
+left-at-requires-2 : tie.Need-left-at-requires-2
+left-at-requires-2 c κs = search needs
+
+right-at-requires : tie.Need-right-at-requires
+right-at-requires c κs = search needs
+
+right-at-requires-2 : tie.Need-right-at-requires-2
+right-at-requires-2 c κs = search needs
+
+draw-band-requires : tie.Need-draw-band-requires
+draw-band-requires c κs =
+    let right = c .before .before .before in
+    let left = right .before .before in
+    let m = left .before .before in
+    let s = m .before .before .before in (
+      s .pre .0,
+      rw (left .before .left-at .ensures, left .left-at2 .ensures, right .before .right-at .ensures, right .right-at2 .ensures)
+          (solid-band (s .args .y) (s .pre .0) (s .pre .1) (measured m) (c .before .if1 .taken)),
+    )
 
 same-length : tie.Need-same-length
 same-length c = search needs
 
 returns : tie.Need-returns
-returns c = search needs
+returns c =
+    let right = c .before .before .before .before .before .before in
+    let left = right .before .before .before in
+    let m = left .before in
+    let s = m .before .before .before in
+    solid-row (s .args .y) (s .pre .0) (s .pre .1) (measured m)
+    (rw (left .left-at .ensures, right .right-at2 .ensures) at (c .before .before .draw-band .ensures))
+
+left-at-requires-3 : tie.Need-left-at-requires-3
+left-at-requires-3 c κs = search needs
+
+left-at-requires-4 : tie.Need-left-at-requires-4
+left-at-requires-4 c κs = search needs
+
+right-at-requires-3 : tie.Need-right-at-requires-3
+right-at-requires-3 c κs = search needs
+
+right-at-requires-4 : tie.Need-right-at-requires-4
+right-at-requires-4 c κs = search needs
+
+draw-band-requires-2 : tie.Need-draw-band-requires-2
+draw-band-requires-2 c κs =
+    let inner = c .before .before .before in
+    let outer = inner .before .before .before .before .before .before in
+    let m = outer .before .before in
+    let s = m .before .before .before in (
+      s .pre .0,
+      rw (outer .before .left-at .ensures, outer .left-at2 .ensures, inner .before .left-at3 .ensures, inner .left-at4 .ensures)
+          (left-band (s .args .y) (s .pre .0) (s .pre .1) (measured m)),
+    )
+
+draw-band-requires-3 : tie.Need-draw-band-requires-3
+draw-band-requires-3 c κs =
+    let first = c .before .before .before in
+    let inner = first .before .before in
+    let outer = inner .before .before .before .before .before .before in
+    let m = outer .before .before .before .before in
+    let s = m .before .before .before in (
+      ready-after (first .draw-band2 .ensures) (s .pre .0),
+      rw (inner .before .right-at3 .ensures, inner .right-at4 .ensures, outer .before .right-at .ensures, outer .right-at2 .ensures)
+          (right-band (s .args .y) (s .pre .0) (s .pre .1) (measured m)),
+    )
+
+add-result : tie.Need-add-result
+add-result c =
+    let second = c .before .before in
+    let first = second .before .before .before .before in
+    let law = first .before .before .before .before .before .before .before .before .before .before .before .before .before .before .before .pre .0 .lawful in
+    omega (arith, drawn-count law (first .draw-band2 .ensures), drawn-count law (second .draw-band3 .ensures))
 
 same-length-2 : tie.Need-same-length-2
 same-length-2 c = search needs
 
 returns-2 : tie.Need-returns-2
-returns-2 c = search needs
+returns-2 c =
+    let second = c .before .before in
+    let first = second .before .before .before .before in
+    let hole = first .before .before .before in
+    let right = hole .before .before .before .before .before in
+    let left = right .before .before .before in
+    let m = left .before in
+    let s = m .before .before .before in
+    hollow-row (s .args .y) (s .pre .0) (s .pre .1) (measured m)
+    (rw (left .left-at .ensures, hole .before .left-at4 .ensures) at (first .draw-band2 .ensures))
+    (rw (hole .right-at3 .ensures, right .right-at2 .ensures) at (second .draw-band3 .ensures))
 
 pub draw-row-spec : {M : Type 1} → statement M
 draw-row-spec =
@@ -47,9 +126,19 @@ draw-row-spec =
     add-apart-of
     apart-of-requires
     measure-requires
-    draw-solid-row-requires
-    draw-hollow-row-requires
+    left-at-requires
+    left-at-requires-2
+    right-at-requires
+    right-at-requires-2
+    draw-band-requires
     same-length
     returns
+    left-at-requires-3
+    left-at-requires-4
+    right-at-requires-3
+    right-at-requires-4
+    draw-band-requires-2
+    draw-band-requires-3
+    add-result
     same-length-2
     returns-2)

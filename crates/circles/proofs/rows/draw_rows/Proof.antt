@@ -46,8 +46,11 @@ loop-again c =
     let s = c .before .before .before .before .before in
     let v = s .before .before .args .view in
     let l = s .loop in
-    let cut = clip-rows (v .x0) (v .y0) (v .x1) (l .y + 1) (l .y) _ (omega arith) (omega arith) in
-    (omega arith, omega arith, drawn-join _ cut (l .inv .2) (c .before .before .draw-row .ensures))
+    let least : v .y0 ≤ l .y = omega arith in (
+      omega arith,
+      omega arith,
+      drawn-join _ (clip-rows (v .x0) (v .y0) (v .x1) (l .y + 1) (l .y) _ least (omega arith)) (l .inv .2) (c .before .before .draw-row .ensures),
+    )
 
 same-length : tie.Need-same-length Inv-loop μ-loop
 same-length c = drawn-length (c .before .loop .inv .2)

@@ -1,12 +1,21 @@
 use mathlib.Core.Path.{_≡_}
 use Rattle.numbers.proofs.Coordinate.{in-range}
+use Rattle.shapes.specs.Offsets.{pointOf}
+use Rattle.shapes.specs.declared.Shape.the-variants.{Disc as disc}
 use Rattle.shapes.proofs.Limits.{disc-lawful, point-kept}
 use Rattle.coverage.specs.Coverage.{drawnN, drawnD}
-use Rattle.shapes.specs.declared.Shape.the-variants.{Disc as disc}
 use Rattle.coverage.proofs.Chord.{disc-drawn, apart-le}
 use borrow.Author.Needs.{needs}
 use Rattle.coverage.proofs.circle.disc_share.Statement.{statement}
 use Rattle.coverage.proofs.circle.disc_share.Tie as tie
+
+centre : (c : tie.After-point-of) → let d = c .before .before .before .args .disc in c .point-of .result ≡ pointOf (d .x) (d .y)
+centre c =
+    let told = c .before .before .struct-told .given in
+    point-kept (record { sfits = told .0 .1 }) (record { sfits = told .1 .0 .1 }) (c .point-of .ensures)
+
+pixel : (c : tie.After-point-of2) → let a = c .before .before .before .before .args in c .point-of2 .result ≡ pointOf (a .x) (a .y)
+pixel c = let s = c .before .before .before .before in point-kept (s .fits .x) (s .fits .y) (c .point-of2 .ensures)
 
 point-of-requires : tie.Need-point-of-requires
 point-of-requires c κs = search needs
@@ -25,18 +34,19 @@ apart-of-requires-2 c κs = search needs
 
 chords-of-requires : tie.Need-chords-of-requires
 chords-of-requires c κs =
-    let w = disc-lawful (c .before .before .before .before .before .before .before .args .disc) (c .before .before .before .before .before .before .before .pre .0) in
-    let o = apart-le _ _ _ _ (c .before .before .before .before .point-of .ensures) (c .before .before .before .point-of2 .ensures) (c .before .apart-of .ensures) (c .apart-of2 .ensures) in
-    (w .most, o .0, o .1)
+    let p = c .before .before .before in
+    let s = p .before .before .before .before in
+    let o = apart-le _ _ _ _ (p .before .point-of .ensures) (p .point-of2 .ensures) (c .before .apart-of .ensures) (c .apart-of2 .ensures) in
+    (disc-lawful (s .args .disc) (s .pre .0) .most, o .0, o .1)
 
 returns : tie.Need-returns
 unfolding drawnD
 returns c =
-    let a = c .before .before .before .before .before .before .before .before .args in
-    let w = disc-lawful (a .disc) (c .before .before .before .before .before .before .before .before .pre .0) in
-    let p = point-kept {x = a .disc .x} {y = a .disc .y} (record { sfits = c .before .before .before .before .before .before .before .struct-told .given .0 .1 }) (record { sfits = c .before .before .before .before .before .before .before .struct-told .given .1 .0 .1 }) (c .before .before .before .before .before .point-of .ensures) in
-    let q = point-kept (c .before .before .before .before .before .before .before .before .fits .x) (c .before .before .before .before .before .before .before .before .fits .y) (c .before .before .before .before .point-of2 .ensures) in
-    let e : c .chords-of .result ≡ drawnN (disc (a .disc)) (a .x) (a .y) = rw (c .chords-of .ensures .0, c .before .before .apart-of .ensures, c .before .apart-of2 .ensures, p, q) (disc-drawn (in-range (a .x) (c .before .before .before .before .before .before .before .before .pre .1)) (in-range (a .y) (c .before .before .before .before .before .before .before .before .pre .2)) (a .disc) w) in
+    let p = c .before .before .before .before in
+    let s = p .before .before .before .before in
+    let e : c .chords-of .result ≡ drawnN (disc (s .args .disc)) (s .args .x) (s .args .y) =
+    rw (c .chords-of .ensures .0, c .before .before .apart-of .ensures, c .before .apart-of2 .ensures, centre (p .before), pixel p)
+    (disc-drawn (in-range (s .args .x) (s .pre .1)) (in-range (s .args .y) (s .pre .2)) (s .args .disc) (disc-lawful (s .args .disc) (s .pre .0))) in
     λ i. record { n = e i; d = 512 }
 
 pub disc-share-spec : {M : Type 1} → statement M

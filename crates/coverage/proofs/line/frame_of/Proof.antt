@@ -1,8 +1,23 @@
-use Rattle.shapes.proofs.Limits.{line-lawful}
+use Prim.Native.Nat.{_≤_, _<_}
+use Rattle.numbers.specs.Order.{dist}
+use Rattle.shapes.specs.Offsets.{endsOf}
+use Rattle.shapes.proofs.Limits.{LawfulLine, line-lawful}
 use Rattle.coverage.proofs.Framing.{flat-forward, flat-backward, upright-forward, upright-backward}
 use borrow.Author.Needs.{needs}
 use Rattle.coverage.proofs.line.frame_of.Statement.{statement}
 use Rattle.coverage.proofs.line.frame_of.Tie as tie
+
+lawful : (c : tie.Start) → LawfulLine (c .args .line)
+lawful c = line-lawful (c .args .line) (c .pre)
+
+-- which span is the longer, by the offsets of the ends
+upright : (c : tie.Then1) → let e = endsOf (c .before .before .before .before .args .line) in dist (e .x0) (e .x1) < dist (e .y0) (e .y1)
+upright c =
+    rw (c .before .before .distance .ensures, c .before .distance2 .ensures, c .before .before .before .ends-of .ensures) at (c .if1 .taken)
+
+flat : (c : tie.Else1) → let e = endsOf (c .before .before .before .before .args .line) in dist (e .y0) (e .y1) ≤ dist (e .x0) (e .x1)
+flat c =
+    rw (c .before .before .distance .ensures, c .before .distance2 .ensures, c .before .before .before .ends-of .ensures) at (c .if1 .left)
 
 ends-of-requires : tie.Need-ends-of-requires
 ends-of-requires c κs = search needs
@@ -18,40 +33,36 @@ rising-frame-requires c κs = search needs
 
 returns : tie.Need-returns
 returns c =
-    upright-forward (c .before .before .before .before .before .before .before .args .line) (line-lawful (c .before .before .before .before .before .before .before .args .line) (c .before .before .before .before .before .before .before .pre)) (c .rising-frame .result)
-    (rw (c .before .before .before .before .before .distance .ensures, c .before .before .before .before .distance2 .ensures, c .before .before .before .before .before .before .ends-of .ensures) at (c .before .before .before .if1 .taken))
-    (rw (c .before .before .before .before .before .before .ends-of .ensures) at (c .before .if2 .taken))
-    (rw (c .before .before .before .before .before .before .ends-of .ensures) at (c .rising-frame .ensures))
+    let t = c .before .before .before in
+    let s = t .before .before .before in
+    upright-forward _ (lawful (s .before)) (upright t) (rw (s .ends-of .ensures) at (c .before .if2 .taken)) (rw (s .ends-of .ensures) at (c .rising-frame .ensures))
 
 rising-frame-requires-2 : tie.Need-rising-frame-requires-2
 rising-frame-requires-2 c κs = search needs
 
 returns-2 : tie.Need-returns-2
 returns-2 c =
-    upright-backward (c .before .before .before .before .before .before .before .args .line) (line-lawful (c .before .before .before .before .before .before .before .args .line) (c .before .before .before .before .before .before .before .pre)) (c .rising-frame2 .result)
-    (rw (c .before .before .before .before .before .distance .ensures, c .before .before .before .before .distance2 .ensures, c .before .before .before .before .before .before .ends-of .ensures) at (c .before .before .before .if1 .taken))
-    (rw (c .before .before .before .before .before .before .ends-of .ensures) at (c .before .if2 .left))
-    (rw (c .before .before .before .before .before .before .ends-of .ensures) at (c .rising-frame2 .ensures))
+    let t = c .before .before .before in
+    let s = t .before .before .before in
+    upright-backward _ (lawful (s .before)) (upright t) (rw (s .ends-of .ensures) at (c .before .if2 .left)) (rw (s .ends-of .ensures) at (c .rising-frame2 .ensures))
 
 rising-frame-requires-3 : tie.Need-rising-frame-requires-3
 rising-frame-requires-3 c κs = search needs
 
 returns-3 : tie.Need-returns-3
 returns-3 c =
-    flat-forward (c .before .before .before .before .before .before .before .args .line) (line-lawful (c .before .before .before .before .before .before .before .args .line) (c .before .before .before .before .before .before .before .pre)) (c .rising-frame3 .result)
-    (rw (c .before .before .before .before .before .distance .ensures, c .before .before .before .before .distance2 .ensures, c .before .before .before .before .before .before .ends-of .ensures) at (c .before .before .before .if1 .left))
-    (rw (c .before .before .before .before .before .before .ends-of .ensures) at (c .before .if3 .taken))
-    (rw (c .before .before .before .before .before .before .ends-of .ensures) at (c .rising-frame3 .ensures))
+    let t = c .before .before .before in
+    let s = t .before .before .before in
+    flat-forward _ (lawful (s .before)) (flat t) (rw (s .ends-of .ensures) at (c .before .if3 .taken)) (rw (s .ends-of .ensures) at (c .rising-frame3 .ensures))
 
 rising-frame-requires-4 : tie.Need-rising-frame-requires-4
 rising-frame-requires-4 c κs = search needs
 
 returns-4 : tie.Need-returns-4
 returns-4 c =
-    flat-backward (c .before .before .before .before .before .before .before .args .line) (line-lawful (c .before .before .before .before .before .before .before .args .line) (c .before .before .before .before .before .before .before .pre)) (c .rising-frame4 .result)
-    (rw (c .before .before .before .before .before .distance .ensures, c .before .before .before .before .distance2 .ensures, c .before .before .before .before .before .before .ends-of .ensures) at (c .before .before .before .if1 .left))
-    (rw (c .before .before .before .before .before .before .ends-of .ensures) at (c .before .if3 .left))
-    (rw (c .before .before .before .before .before .before .ends-of .ensures) at (c .rising-frame4 .ensures))
+    let t = c .before .before .before in
+    let s = t .before .before .before in
+    flat-backward _ (lawful (s .before)) (flat t) (rw (s .ends-of .ensures) at (c .before .if3 .left)) (rw (s .ends-of .ensures) at (c .rising-frame4 .ensures))
 
 pub frame-of-spec : {M : Type 1} → statement M
 frame-of-spec =

@@ -1,0 +1,37 @@
+-- Laws of the columns and rows of a clip, and of distances from a centre.
+use Prim.Native.Nat.{ℕ, _+_, _-_, _≤_, _<_}
+use native.Mathlib.Omega.{arith}
+use Rattle.coverage.specs.Circle.{apart}
+use Rattle.circles.specs.Row.{clamped}
+
+pub clamped-low : (lo hi c : ℕ) → lo ≤ hi → lo ≤ clamped lo hi c
+clamped-low lo hi c h = omega arith
+
+pub clamped-high : (lo hi c : ℕ) → clamped lo hi c ≤ hi
+clamped-high lo hi c = omega arith
+
+pub clamped-rises : (lo hi c d : ℕ) → c ≤ d → clamped lo hi c ≤ clamped lo hi d
+clamped-rises lo hi c d h = omega arith
+
+-- the offsets of what lies before a clamped one, from one on, and from one up to another
+pub before-clamped : (lo hi c x : ℕ) → lo ≤ x → x < clamped lo hi c → x + 4096 < c
+before-clamped lo hi c x h k = omega arith
+
+pub from-clamped : (lo hi c x : ℕ) → x < hi → clamped lo hi c ≤ x → c ≤ x + 4096
+from-clamped lo hi c x h k = omega arith
+
+pub between-clamped : (lo hi c d x : ℕ) → lo ≤ hi → clamped lo hi c ≤ x → x < clamped lo hi d → (c ≤ x + 4096) × (x + 4096 < d)
+between-clamped lo hi c d x h p q = (
+  from-clamped lo hi c x (omega (arith, clamped-high lo hi d)) p,
+  before-clamped lo hi d x (omega (arith, clamped-low lo hi c h)) q,
+)
+
+-- nearer to c than d, or at least as far on its left or on its right
+pub apart-near : (c d x : ℕ) → c - d ≤ x → x < c + d → apart c x < d
+apart-near c d x h k = omega arith
+
+pub apart-left : (c d x : ℕ) → x < c - d → d ≤ apart c x
+apart-left c d x h = omega arith
+
+pub apart-right : (c d x : ℕ) → c + d ≤ x → d ≤ apart c x
+apart-right c d x h = omega arith
