@@ -32,9 +32,3 @@ nearest-le n d b h p =
 
 pub nearest-whole : (r d : ℕ) → 0 < d → nearest (r * d) d ≡ r
 nearest-whole r d h = sym (nearest-unique (r * d) d r (record { low = omega arith; high = omega arith }))
-
--- with one division by d
-pub nearest-half : (n d : ℕ) → 0 < d → (n + d / 2) / d ≡ nearest n d
-nearest-half n d h =
-    nearest-unique n d ((n + d / 2) / d)
-    (record { low = omega (arith, div-mul-le-self (n + d / 2) d); high = omega (arith, lt-div-mul-add {a = n + d / 2} h) })

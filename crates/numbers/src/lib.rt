@@ -1,17 +1,8 @@
 // Whole-number arithmetic that the other crates share.
 ghost use mathlib.Core.Path.{_≡_};
-ghost use Prim.Native.Nat.{_+_, _^_, _≤_, _<_};
-ghost use Rattle.numbers.specs.Nearest.{nearest};
+ghost use Prim.Native.Nat.{_≤_, _<_};
 ghost use Rattle.numbers.specs.Order.{dist, Product, Remainder};
 ghost use Rattle.numbers.specs.Coordinate.{inRange, offsetOf, bitsOf, signedOf, wordOf, bytesOf};
-
-// n over d to the nearest whole number, halves up.
-pub fn nearest_quotient(n: u64, d: u64) -> u64
-    requires { ⌜ (0 < d) × (n + d < 2 ^ 64) ⌝ }
-    ensures { λ r. ⌜ r ≡ nearest n d ⌝ }
-{
-    (n + d / 2) / d
-}
 
 // A product of two 16-bit numbers.
 pub fn product(a: u64, b: u64) -> u64
