@@ -30,9 +30,9 @@ extern "C" {
 
 /* ---- a whole list ---- */
 
-/* W, H and how many touches were made, summed over all pixels; or the refusal and its place: 0 for
- * the header, 12 and 21; the record's first byte; the list's length where the end is missing; the
- * first surplus byte for 6. */
+/* W, H and the touched count: the sum, over the shapes, of the pixels that each touches. Or the
+ * refusal and its place: 0 for the header, 12 and 21; the record's first byte; the list's length
+ * where the end is missing; the first surplus byte for 6. */
 struct greystroke_list_answer {
     uint64_t refusal;
     size_t place;

@@ -17,10 +17,10 @@ use Rattle.coverage.proofs.Pixel.{whole-drawn}
 use Rattle.page.specs.Blend.{inkOf, Coverage}
 use Rattle.page.specs.Page.{Lawful, Drawn}
 use Rattle.page.specs.declared.View.{View}
-use Rattle.page.proofs.Paint.{drawn-join, drawn-none}
+use Rattle.page.proofs.Paint.{drawn-none}
 use Rattle.lines.specs.Layout.{lineOn, lineInk, alongFrom, alongEnd, strip, Laid, columned, columnCount, At}
 use Rattle.lines.specs.declared.layout.Layout.{Layout}
-use Rattle.lines.proofs.Strip.{strip-join, strip-none}
+use Rattle.lines.proofs.Strip.{strip-none}
 use Rattle.lines.proofs.Column.{column-drawn}
 
 -- ---- the rows of a column are coverages
@@ -58,21 +58,15 @@ rows-cover t l s exact c p h k e =
       lower = record { some = w .0; part = omega (arith, e .sum); most = w .1 };
     }
 
--- ---- one column more
-module _ (c : View) (n : Line) (f : Frame) (lay : Layout) (size from p k g r level d : ℕ) (rows : Rows) (w : Lawful c size) (fr : Framed n f) (la : Laid c f lay)
-    (low : alongFrom c f ≤ from) (order : from ≤ p) (end : p < alongEnd c f) (first : f .x ≤ from + 4096) (last : p + 4096 < f .x + f .l)
+-- ---- one column
+module _ (c : View) (n : Line) (f : Frame) (lay : Layout) (size p k g r level d : ℕ) (rows : Rows) (w : Lawful c size) (fr : Framed n f) (la : Laid c f lay)
+    (low : alongFrom c f ≤ p) (end : p < alongEnd c f) (first : f .x ≤ p + 4096) (last : p + 4096 < f .x + f .l)
     (at : At f lay p k g r) (rows-is : rows ≡ rowsOf (n .exact) (f .l) (f .s) r) (d-is : d ≡ wholeOf (n .exact) (f .l) (f .s)) where
-  one-column : (l : List ℕ) → length l ≡ size → Drawn (c .w) (c .h) (lineInk n level) (strip c f p (p + 1) (lineOn n)) l (columned lay (inkOf level d) rows k g l) (columnCount lay rows g)
+  pub one-column : (l : List ℕ) → length l ≡ size
+      → Drawn (c .w) (c .h) (lineInk n level) (strip c f p (p + 1) (lineOn n)) l (columned lay (inkOf level d) rows k g l) (columnCount lay rows g)
   one-column l e =
       rw (rows-is, d-is ∙ whole-drawn fr, at .g-is, at .r-is)
-      (column-drawn c n f lay size p w fr la (omega arith) end (omega arith) last (lineInk n level) k l (omega (arith, w .room)) (rw (at .g-is) at (at .k-is)))
-
-  pub one-more : (l₀ l l′ : List ℕ) (t t′ : ℕ) → length l ≡ size → Drawn (c .w) (c .h) (lineInk n level) (strip c f from p (lineOn n)) l₀ l t
-      → l′ ≡ columned lay (inkOf level d) rows k g l
-      → t′ ≡ columnCount lay rows g
-      → Drawn (c .w) (c .h) (lineInk n level) (strip c f from (p + 1) (lineOn n)) l₀ l′ (t + t′)
-  one-more l₀ l l′ t t′ e before el et =
-      rw (el, et) (drawn-join (strip c f from (p + 1) (lineOn n)) (strip-join c f (lineOn n) from p (p + 1) order (omega arith)) before (one-column l e))
+      (column-drawn c n f lay size p w fr la low end first last (lineInk n level) k l (omega (arith, w .room)) (rw (at .g-is) at (at .k-is)))
 
 pub none-yet : (c : View) (n : Line) (f : Frame) (level from : ℕ) (l : List ℕ) → Drawn (c .w) (c .h) (lineInk n level) (strip c f from from (lineOn n)) l l 0
 none-yet c n f level from l = drawn-none (c .w) (c .h) (lineInk n level) (strip c f from from (lineOn n)) l (strip-none c f (lineOn n) from)

@@ -17,13 +17,13 @@ use Rattle.coverage.proofs.Column.{Filled}
 use Rattle.page.specs.Blend.{inkOf, blend}
 use Rattle.page.specs.Page.{touch}
 use Rattle.lines.specs.Layout.{alongEnd, shown, spotted, raised, lowered, columned, columnCount, Reachable, At, Advanced}
-use Rattle.lines.specs.Stroke.{Ready, Standing, Drawable, Inner, Extended, Stepped}
+use Rattle.lines.specs.Stroke.{Ready, Standing, Drawable, Inner, Stepped}
 use Rattle.lines.specs.declared.layout.Layout.{Layout}
 use Rattle.lines.specs.declared.step.Step.{Step}
 use Rattle.lines.specs.declared.step.Stroke.{Stroke}
 use Rattle.lines.proofs.Advance.{advance, reachable, k-most}
 use Rattle.lines.proofs.Dots.{spotted-blend}
-use Rattle.lines.proofs.Columns.{Covers, rows-filled, rows-cover, one-more, layout-le, along-most}
+use Rattle.lines.proofs.Columns.{Covers, rows-filled, rows-cover, one-column, layout-le, along-most}
 
 module _ {s : Stroke} {size : ℕ} {at : Step} (here : Drawable s at size) where
   ready : Ready s size
@@ -80,11 +80,17 @@ module _ {s : Stroke} {size : ℕ} {at : Step} (here : Drawable s at size) where
       → t ≤ 3
       → Stepped s at to l m
   stepped t rows to l m rows-is same adv p-is touched-is m-is t-is few =
+      let apart : to .touched - at .touched ≡ t = omega arith in
       record {
         p-is = p-is;
         rises = rw (adv .g-is) (up (leb (2 * f .l) (at .r + 2 * f .s)) (at .g));
-        standing = record { is = rw p-is next; left = omega (arith, stand .left); first = omega (arith, stand .first); few = omega (arith, stand .few) };
-        extended = more;
+        extended =
+            record {
+              order = omega arith;
+              more = omega arith;
+              drawn = rw (apart, p-is, m-is, t-is) (one-column (s .view) (s .line) f lay size (at .p) (at .k) (at .g) (at .r) (s .level) (s .d) rows (ready .lawful) (ready .framed) (ready .laid) (stand .left) end (stand .first) last (stand .is) rows-is (ready .d-is) l same);
+              standing = record { is = rw p-is next; left = omega (arith, stand .left); first = omega (arith, stand .first); few = omega (arith, stand .few) };
+            };
       }
     where
       up : (b : Bool) (g : ℕ) → g ≤ cond b (g + 1) g
@@ -95,12 +101,6 @@ module _ {s : Stroke} {size : ℕ} {at : Step} (here : Drawable s at size) where
       next =
           advance f lay (at .p) (at .k) (at .g) (at .r) (to .k) (to .g) (to .r) (ready .framed .long) (ready .framed .short) (omega (arith, ready .framed .right)) (stand .first) last (ready .laid .falls-is) (stand .is)
           adv
-
-      more : Extended s at to l m
-      more p l₀ order low first before =
-          rw (p-is, touched-is)
-          (one-more (s .view) (s .line) f lay size p (at .p) (at .k) (at .g) (at .r) (s .level) (s .d) rows (ready .lawful) (ready .framed) (ready .laid) low order end first last (stand .is) rows-is (ready .d-is)
-          l₀ l m (at .touched) t same before m-is t-is)
 
   -- inside the clip
   module _ (inner : Inner s at) where

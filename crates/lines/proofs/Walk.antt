@@ -9,31 +9,36 @@ use lib.Dec.{leb, ltb}
 use borrow.Author.Tests.{le-leb, lt-ltb, leb-true, ltb-true}
 use Rattle.numbers.proofs.Order.{lt-or-le}
 use Rattle.page.specs.Page.{Drawn}
+use Rattle.page.proofs.Paint.{drawn-join}
 use Rattle.lines.specs.Layout.{lineOn, lineInk, alongFrom, strip, At}
-use Rattle.lines.specs.Stroke.{Ready, Standing, Within, Stepped, Walked}
+use Rattle.lines.specs.Stroke.{Ready, Standing, Within, Extended}
 use Rattle.lines.specs.declared.step.Step.{Step}
 use Rattle.lines.specs.declared.step.Stroke.{Stroke}
+use Rattle.lines.proofs.Strip.{strip-join}
 use Rattle.lines.proofs.RowPixel.{both-true}
 use Rattle.lines.proofs.Columns.{none-yet}
 use Rattle.lines.proofs.Steps.{reaches}
 
-module _ (s : Stroke) (e : ℕ) where
-  pub walked-none : (at : Step) (l : List ℕ) → Standing s at → at .p ≤ e → Walked s e at at l l
-  walked-none at l stand h = record { order = omega arith; most = h; standing = stand; extended = λ p l₀ o lo fi d. d }
+module _ {s : Stroke} where
+  pub extended-none : (at : Step) (l : List ℕ) → Standing s at → Extended s at at l l
+  extended-none at l stand =
+      let none : at .touched - at .touched ≡ 0 = omega arith in
+      record { order = omega arith; more = omega arith; drawn = rw none (none-yet (s .view) (s .line) (s .frame) (s .level) (at .p) l); standing = stand }
 
-  pub walked-step : {at to : Step} {l m : List ℕ} → Stepped s at to l m → at .p < e → Walked s e at to l m
-  walked-step t h = record { order = omega (arith, t .p-is); most = omega (arith, t .p-is); standing = t .standing; extended = t .extended }
-
-  pub walked-join : {from at to : Step} {l₀ l m : List ℕ} → Walked s e from at l₀ l → Walked s e at to l m → Walked s e from to l₀ m
-  walked-join a b =
+  pub extended-join : {from at to : Step} {l₀ l m : List ℕ} → Extended s from at l₀ l → Extended s at to l m → Extended s from to l₀ m
+  extended-join {from} {at} {to} a b =
+      let sum : to .touched - from .touched ≡ (at .touched - from .touched) + (to .touched - at .touched) = omega (arith, a .more, b .more) in
       record {
         order = omega (arith, a .order, b .order);
-        most = b .most;
+        more = omega (arith, a .more, b .more);
+        drawn =
+            rw sum
+            (drawn-join (strip (s .view) (s .frame) (from .p) (to .p) (lineOn (s .line))) (strip-join (s .view) (s .frame) (lineOn (s .line)) (from .p) (at .p) (to .p) (a .order) (b .order)) (a .drawn)
+            (b .drawn));
         standing = b .standing;
-        extended = λ p l₀ o lo fi d. b .extended p l₀ (omega (arith, a .order)) lo fi (a .extended p l₀ o lo fi d);
       }
 
-  pub within-next : (p : ℕ) → Within s e → p < e → Within s (p + 1)
+  pub within-next : {e : ℕ} (p : ℕ) → Within s e → p < e → Within s (p + 1)
   within-next p w h = record { right = omega (arith, w .right); last = omega (arith, w .last) }
 
 -- a page has its highest row well above row 2, for rows are counted from 16,384
@@ -52,18 +57,17 @@ goes p e g top h = let b = both-true (ltb p e) (leb g top) h in (ltb-true p e (b
 pub stops : (p e g top : ℕ) → (ltb p e && leb g top) ≡ false → p < e → top < g
 stops p e g top h k = ⊎-elim (λ z. z) (λ z. absurd (let n : _≡_ {A = ℕ} 0 1 = cc (lt-ltb p e k, le-leb g top z) in omega arith)) (lt-or-le top g)
 
--- a walk from the first column of a stroke that ends before none of them has drawn them all
-pub walked-whole : (s : Stroke) (size e : ℕ) (from to : Step) (l m : List ℕ) → Ready s size → Within s e → from .touched ≡ 0 → Standing s from → Walked s e from to l m
+-- a walk that began with no touches and ends at e, or above every row, has drawn the columns to e
+pub extended-whole : {s : Stroke} {size e : ℕ} {from to : Step} {l m : List ℕ} → Ready s size → Within s e → from .touched ≡ 0 → Extended s from to l m → to .p ≤ e
     → (to .p < e → 65535 < to .g)
     → Drawn (s .view .w) (s .view .h) (lineInk (s .line) (s .level)) (strip (s .view) (s .frame) (from .p) e (lineOn (s .line))) l m (to .touched)
-walked-whole s size e from to l m ready within zero stand walked past =
-    rw (← ended)
-    (walked .extended (from .p) l (omega arith) (stand .left) (stand .first) (rw zero (none-yet (s .view) (s .line) (s .frame) (s .level) (from .p) l)))
+extended-whole {s} {size} {e} {from} {to} ready within zero x most past =
+    let all : to .touched ≡ to .touched - from .touched = omega arith in rw (← ended, all) (x .drawn)
   where
     ended : to .p ≡ e
     ended =
-        ⊎-elim (λ z. absurd (omega (arith, past z, reaches (record { ready = ready; standing = walked .standing; within = within-next s e (to .p) within z }) .row-most)))
-        (λ z. omega (arith, walked .most)) (lt-or-le (to .p) e)
+        ⊎-elim (λ z. absurd (omega (arith, past z, reaches (record { ready = ready; standing = x .standing; within = within-next (to .p) within z }) .row-most)))
+        (λ z. omega arith) (lt-or-le (to .p) e)
 
 -- where a walk begins
 pub standing-first : (s : Stroke) (at : Step) (p : ℕ) → At (s .frame) (s .layout) p (at .k) (at .g) (at .r) → at .p ≡ p → at .touched ≡ 0

@@ -1,7 +1,7 @@
 -- One line on one page, and a walk along its columns.
 use mathlib.Core.Path.{_≡_}
 use mathlib.Core.List.{List}
-use Prim.Native.Nat.{ℕ, _+_, _*_, _≤_, _<_}
+use Prim.Native.Nat.{ℕ, _+_, _-_, _*_, _≤_, _<_}
 use Rattle.coverage.specs.Rows.{wholeOf}
 use Rattle.coverage.specs.Frame.{Framed}
 use Rattle.page.specs.Blend.{Scale}
@@ -41,23 +41,15 @@ pub record Inner (s : Stroke) (at : Step) : Type 0 where
   pub above-low : s .layout .low < at .g
   pub below-high : at .g + 1 < s .layout .high
 
--- a walk that has drawn the columns from p to at has now drawn those from p to another step: the page was l and is m
-abbrev pub Extended : Stroke → Step → Step → List ℕ → List ℕ → Type 0
-Extended s at to l m =
-    (p : ℕ) (l₀ : List ℕ) → p ≤ at .p → alongFrom (s .view) (s .frame) ≤ p → s .frame .x ≤ p + 4096
-    → Drawn (s .view .w) (s .view .h) (lineInk (s .line) (s .level)) (strip (s .view) (s .frame) p (at .p) (lineOn (s .line))) l₀ l (at .touched)
-    → Drawn (s .view .w) (s .view .h) (lineInk (s .line) (s .level)) (strip (s .view) (s .frame) p (to .p) (lineOn (s .line))) l₀ m (to .touched)
+-- a walk has drawn the columns from one step to another: the page was l and is m
+pub record Extended (s : Stroke) (at to : Step) (l m : List ℕ) : Type 0 where
+  pub order : at .p ≤ to .p
+  pub more : at .touched ≤ to .touched
+  pub drawn : Drawn (s .view .w) (s .view .h) (lineInk (s .line) (s .level)) (strip (s .view) (s .frame) (at .p) (to .p) (lineOn (s .line))) l m (to .touched - at .touched)
+  pub standing : Standing s to
 
--- a walk has drawn one column
+-- it was one column
 pub record Stepped (s : Stroke) (at to : Step) (l m : List ℕ) : Type 0 where
   pub p-is : to .p ≡ at .p + 1
   pub rises : at .g ≤ to .g
-  pub standing : Standing s to
-  pub extended : Extended s at to l m
-
--- a walk has drawn columns, none from e on
-pub record Walked (s : Stroke) (e : ℕ) (at to : Step) (l m : List ℕ) : Type 0 where
-  pub order : at .p ≤ to .p
-  pub most : to .p ≤ e
-  pub standing : Standing s to
   pub extended : Extended s at to l m

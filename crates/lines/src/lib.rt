@@ -16,7 +16,7 @@ ghost use Rattle.shapes.specs.declared.Shape.the-variants.{Line as asShape};
 ghost use Rattle.coverage.specs.Frame.{Framed};
 ghost use Rattle.page.specs.Page.{inView, Lawful, Drawn};
 ghost use Rattle.lines.specs.Layout.{lineOn, lineInk, alongFrom, alongEnd, strip};
-ghost use Rattle.lines.specs.Stroke.{Ready, Standing, Within, Walked};
+ghost use Rattle.lines.specs.Stroke.{Ready, Standing, Within, Extended};
 
 // The columns of the page, or its rows, from one to before another.
 pub struct Span {
@@ -34,7 +34,7 @@ fn goes_on(at: Step, top: usize, end: usize) -> bool
 // Draws columns under the clip, to end or to the first above row top.
 fn walk_clipped(page: &mut [u8], s: Stroke, from: Step, top: usize, end: usize) -> Step
     requires { ⌜ Ready s (length (now page)) × Standing s from × (from .p ≤ end) × Within s end ⌝ }
-    ensures { λ to. ⌜ Walked s end from to (now (page .entry)) (now (page .exit)) × (to .p < end → top < to .g) ⌝ }
+    ensures { λ to. ⌜ Extended s from to (now (page .entry)) (now (page .exit)) × (to .p ≤ end) × (to .p < end → top < to .g) ⌝ }
 {
     let mut at = from;
     while goes_on(at, top, end) {
@@ -47,7 +47,7 @@ fn walk_clipped(page: &mut [u8], s: Stroke, from: Step, top: usize, end: usize) 
 fn walk_inside(page: &mut [u8], s: Stroke, from: Step, end: usize) -> Step
     requires { ⌜ Ready s (length (now page)) × Standing s from × (from .p ≤ end) × Within s end ⌝ }
     requires { ⌜ (from .p < end → s .layout .low < from .g) ⌝ }
-    ensures { λ to. ⌜ Walked s end from to (now (page .entry)) (now (page .exit)) ⌝ }
+    ensures { λ to. ⌜ Extended s from to (now (page .entry)) (now (page .exit)) × (to .p ≤ end) ⌝ }
 {
     let lay = s.layout;
     let top = lay.high - 2;

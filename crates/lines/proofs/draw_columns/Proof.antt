@@ -1,8 +1,7 @@
 use native.Mathlib.Omega.{arith}
 use lib.ListN.{length}
-use Rattle.lines.specs.declared.step.Stroke.{Stroke}
 use Rattle.lines.proofs.Columns.{whole-fits, layout-le, along-most}
-use Rattle.lines.proofs.Walk.{walked-join, walked-whole, standing-first}
+use Rattle.lines.proofs.Walk.{extended-join, extended-whole, standing-first}
 use borrow.Author.Needs.{needs}
 use Rattle.lines.proofs.draw_columns.Statement.{statement}
 use Rattle.lines.proofs.draw_columns.Tie as tie
@@ -44,14 +43,14 @@ walk-inside-requires c κs =
     let lower = c .before .before .before .walk-clipped in
     let pre = c .before .before .before .before .before .before .before .before .before .before .pre in
     let a = lower .ensures in
-    ((rw (lower .kept .0) (record { lawful = pre .0 .0; framed = pre .0 .1; laid = c .before .before .before .before .before .before .before .before .layout-of .ensures; d-is = c .before .before .before .before .before .before .before .whole-of .ensures; m-is = c .before .before .before .before .before .before .scale .ensures }), a .0 .standing, a .0 .most, record { right = pre .1 .2; last = pre .1 .4 }), a .1)
+    ((rw (lower .kept .0) (record { lawful = pre .0 .0; framed = pre .0 .1; laid = c .before .before .before .before .before .before .before .before .layout-of .ensures; d-is = c .before .before .before .before .before .before .before .whole-of .ensures; m-is = c .before .before .before .before .before .before .scale .ensures }), a .0 .standing, a .1, record { right = pre .1 .2; last = pre .1 .4 }), a .2)
 
 walk-clipped-requires-2 : tie.Need-walk-clipped-requires-2
 walk-clipped-requires-2 c κs =
     let inner = c .before .before .before .walk-inside in
     let pre = c .before .before .before .before .before .before .before .before .before .before .before .before .before .before .pre in
     let b = inner .ensures in
-    (rw (inner .kept .0, c .before .before .before .before .before .before .before .walk-clipped .kept .0) (record { lawful = pre .0 .0; framed = pre .0 .1; laid = c .before .before .before .before .before .before .before .before .before .before .before .before .layout-of .ensures; d-is = c .before .before .before .before .before .before .before .before .before .before .before .whole-of .ensures; m-is = c .before .before .before .before .before .before .before .before .before .before .scale .ensures }), b .standing, b .most, record { right = pre .1 .2; last = pre .1 .4 })
+    (rw (inner .kept .0, c .before .before .before .before .before .before .before .walk-clipped .kept .0) (record { lawful = pre .0 .0; framed = pre .0 .1; laid = c .before .before .before .before .before .before .before .before .before .before .before .before .layout-of .ensures; d-is = c .before .before .before .before .before .before .before .before .before .before .before .whole-of .ensures; m-is = c .before .before .before .before .before .before .before .before .before .before .scale .ensures }), b .0 .standing, b .1, record { right = pre .1 .2; last = pre .1 .4 })
 
 same-length : tie.Need-same-length
 same-length c = search needs
@@ -65,10 +64,8 @@ returns c =
     let start = c .before .before .before .before .before .before .before .before .before .before .before .before .first-step in
     let upper = c .before .before .walk-clipped2 in
     let pre = c .before .before .before .before .before .before .before .before .before .before .before .before .before .before .before .before .before .pre in
-    let s : Stroke = (record { view = a .view; line = a .line; frame = a .f; layout = laid .result; level = a .level; d = whole .result; m = scaled .result }) in
-    let e = a .end in
-    let whole = walked-whole s (length (a .page .now)) e (start .result) (upper .result) (a .page .now) (upper .last .0) (record { lawful = pre .0 .0; framed = pre .0 .1; laid = laid .ensures; d-is = whole .ensures; m-is = scaled .ensures }) (record { right = pre .1 .2; last = pre .1 .4 }) (start .ensures .2) (standing-first (record { view = a .view; line = a .line; frame = a .f; layout = laid .result; level = a .level; d = whole .result; m = scaled .result }) (start .result) (a .from) (start .ensures .0) (start .ensures .1) (start .ensures .2) (pre .1 .0) (pre .1 .3)) (walked-join s e (walked-join s e (c .before .before .before .before .before .before .before .before .before .before .walk-clipped .ensures .0) (c .before .before .before .before .before .before .walk-inside .ensures)) (upper .ensures .0)) (upper .ensures .1) in
-    rw (← start .ensures .1) whole
+    let x = extended-join (extended-join (c .before .before .before .before .before .before .before .before .before .before .walk-clipped .ensures .0) (c .before .before .before .before .before .before .walk-inside .ensures .0)) (upper .ensures .0) in
+    rw (← start .ensures .1) (extended-whole (record { lawful = pre .0 .0; framed = pre .0 .1; laid = laid .ensures; d-is = whole .ensures; m-is = scaled .ensures }) (record { right = pre .1 .2; last = pre .1 .4 }) (start .ensures .2) x (upper .ensures .1) (upper .ensures .2))
 
 pub draw-columns-spec : {M : Type 1} → statement M
 draw-columns-spec =

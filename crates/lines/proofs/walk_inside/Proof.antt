@@ -1,14 +1,14 @@
 use mathlib.Core.Path.{_≡_, refl, sym, _∙_}
-use Prim.Native.Nat.{_-_, _<_}
+use Prim.Native.Nat.{_-_, _≤_, _<_}
 use native.Mathlib.Omega.{arith}
 use lib.ListN.{length}
-use Rattle.lines.specs.Stroke.{Walked}
-use Rattle.lines.proofs.Walk.{walked-none, walked-step, walked-join, within-next, high-least, goes}
+use Rattle.lines.specs.Stroke.{Extended}
+use Rattle.lines.proofs.Walk.{extended-none, extended-join, within-next, high-least, goes}
 use Rattle.lines.proofs.walk_inside.Statement.{statement}
 use Rattle.lines.proofs.walk_inside.Tie as tie
 
 abbrev Inv-loop : tie.InvT-loop
-Inv-loop page₀ s end top from page at = (length page ≡ length page₀) × Walked s end from at page₀ page × (at .p < end → s .layout .low < at .g)
+Inv-loop page₀ s end top from page at = (length page ≡ length page₀) × Extended s from at page₀ page × (at .p ≤ end) × (at .p < end → s .layout .low < at .g)
 
 abbrev μ-loop : tie.MeasureT-loop
 μ-loop page₀ s end top from page at = end - at .p
@@ -22,7 +22,7 @@ loop-holds : tie.Need-loop-holds Inv-loop μ-loop
 loop-holds c =
     let a = c .before .before .before .args in
     let pre = c .before .before .before .pre in
-    (refl, walked-none (a .s) (a .end) (a .from) (a .page .now) (pre .0 .1) (pre .0 .2), pre .1)
+    (refl, extended-none (a .from) (a .page .now) (pre .0 .1), pre .0 .2, pre .1)
 
 goes-on-requires : tie.Need-goes-on-requires Inv-loop μ-loop
 goes-on-requires c κs = tt
@@ -34,7 +34,7 @@ step-inside-requires c κs =
     let pre = c .before .before .before .before .before .before .before .pre in
     let h = goes (v .at .p) (a .end) (v .at .g) _ (sym (c .before .before .goes-on .ensures) ∙ c .before .if1 .taken) in
     let two = high-least (a .s) (length (a .page .now)) (pre .0 .0) in
-    (record { ready = rw (v .inv .0) (pre .0 .0); standing = v .inv .1 .standing; within = within-next (a .s) (a .end) (v .at .p) (pre .0 .3) (h .0) }, record { above-low = v .inv .2 (h .0); below-high = omega (arith, h .1, two) })
+    (record { ready = rw (v .inv .0) (pre .0 .0); standing = v .inv .1 .standing; within = within-next (v .at .p) (pre .0 .3) (h .0) }, record { above-low = v .inv .3 (h .0); below-high = omega (arith, h .1, two) })
 
 loop-less : tie.Need-loop-less Inv-loop μ-loop
 loop-less c =
@@ -49,13 +49,13 @@ loop-again c =
     let step = c .before .before .step-inside in
     let h = goes (v .at .p) (a .end) (v .at .g) _ (sym (c .before .before .before .before .before .goes-on .ensures) ∙ c .before .before .before .before .if1 .taken) in
     let t = step .ensures in
-    (step .kept .0 ∙ v .inv .0, walked-join (a .s) (a .end) (v .inv .1) (walked-step (a .s) (a .end) t (h .0)), λ z. omega (arith, v .inv .2 (h .0), t .rises))
+    (step .kept .0 ∙ v .inv .0, extended-join (v .inv .1) (t .extended), omega (arith, h .0, t .p-is), λ z. omega (arith, v .inv .3 (h .0), t .rises))
 
 same-length : tie.Need-same-length Inv-loop μ-loop
 same-length c = c .before .before .loop .inv .0
 
 returns : tie.Need-returns Inv-loop μ-loop
-returns c = c .before .before .loop .inv .1
+returns c = (c .before .before .loop .inv .1, c .before .before .loop .inv .2)
 
 pub walk-inside-spec : {M : Type 1} → statement M
 walk-inside-spec =
