@@ -50,13 +50,13 @@ fn covered(hs: &[u32; 257], a: u64, b: u64) -> u64
     chord_of(height(hs, m), n) + chord_of(height(hs, m + 1), n)
 }
 
-// The coverage over 512 between two circles, the inner of radius hole: a row past that needs no heights of it.
+// The coverage over 512 between two circles, the inner of radius hole: a pixel past that needs no heights of it.
 pub fn covered_between(outer: &[u32; 257], inner: &[u32; 257], hole: u64, a: u64, b: u64) -> u64
     requires { ⌜ Nested (at (now outer)) (at (now inner)) hole × (a ≤ 255) × (b ≤ 255) ⌝ }
     ensures { λ r. ⌜ (r ≡ between (at (now (outer .entry))) (at (now (inner .entry))) a b) × (r ≤ 512) ⌝ }
 {
     let n = covered(outer, a, b);
-    if b < hole {
+    if greater(a, b) < hole {
         n - covered(inner, a, b)
     } else {
         n

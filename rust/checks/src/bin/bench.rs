@@ -11,6 +11,7 @@ use greystroke::{
     Shape, Size, Writer,
 };
 use std::hint::black_box;
+use std::mem::take;
 use std::time::{Duration, Instant};
 
 /// How long each ratio and each series of growth is measured.
@@ -67,7 +68,8 @@ impl Painter {
     }
 }
 
-/// The best times of the library and of the baseline, in turns on the same jobs.
+/// The best times of the library and of the baseline, in turns on the same jobs and the same page:
+/// two pages would contend for the cache, more in one run than in another.
 fn best_of_both(jobs: &[Job]) -> (Duration, Duration) {
     let mut library = Painter::new(draw_shape, SIDE);
     let mut plain = Painter::new(baseline::draw_shape, SIDE);
@@ -77,7 +79,9 @@ fn best_of_both(jobs: &[Job]) -> (Duration, Duration) {
     let start = Instant::now();
     while start.elapsed() < RATIO_TIME {
         best.0 = best.0.min(library.time(jobs));
+        plain.page = take(&mut library.page);
         best.1 = best.1.min(plain.time(jobs));
+        library.page = take(&mut plain.page);
     }
     best
 }
@@ -293,18 +297,19 @@ fn full_list() -> Vec<u8> {
     list
 }
 
-/// The best times of two jobs in turns.
+/// The best times of two jobs in turns on one page.
 fn best_in_turns<T>(
-    mut one: impl FnMut() -> T,
-    mut other: impl FnMut() -> T,
+    page: &mut [u8],
+    one: impl Fn(&mut [u8]) -> T,
+    other: impl Fn(&mut [u8]) -> T,
 ) -> (Duration, Duration) {
     let mut best = (Duration::MAX, Duration::MAX);
     let start = Instant::now();
     while start.elapsed() < RATIO_TIME {
         let begin = Instant::now();
-        black_box(one());
+        black_box(one(page));
         let between = Instant::now();
-        black_box(other());
+        black_box(other(page));
         best.0 = best.0.min(between - begin);
         best.1 = best.1.min(between.elapsed());
     }
@@ -326,8 +331,9 @@ fn print_list_ratios() {
     assert!(drawn.is_ok() && drawn == baseline_list::draw_list(&mut plain_page, &list));
     assert!(page == plain_page, "the pages differ");
     let times = best_in_turns(
-        || draw_list(&mut page, black_box(&list)),
-        || baseline_list::draw_list(&mut plain_page, black_box(&list)),
+        &mut page,
+        |page| draw_list(page, black_box(&list)),
+        |page| baseline_list::draw_list(page, black_box(&list)),
     );
     let inputs = format!("{LISTED_SHAPES} mixed shapes, checked and drawn, page {SIDE} by {SIDE}");
     print_list_ratio("mixed_list", &inputs, times);
@@ -336,8 +342,9 @@ fn print_list_ratios() {
     let checked = check_list(&list, length);
     assert!(checked.is_ok() && checked == baseline_list::check_list(&list, length));
     let times = best_in_turns(
-        || check_list(black_box(&list), length),
-        || baseline_list::check_list(black_box(&list), length),
+        &mut page,
+        |_| check_list(black_box(&list), length),
+        |_| baseline_list::check_list(black_box(&list), length),
     );
     let inputs = format!("a list of {} bytes of mixed records, checked", list.len());
     print_list_ratio("check_list", &inputs, times);

@@ -11,25 +11,28 @@ use Rattle.circles.proofs.cover.covered_between.Tie as tie
 covered-requires : tie.Need-covered-requires
 covered-requires c κs = search needs
 
+greater-requires : tie.Need-greater-requires
+greater-requires c κs = search needs
+
 covered-requires-2 : tie.Need-covered-requires-2
 covered-requires-2 c κs = search needs
 
 sub-result : tie.Need-sub-result
 sub-result c =
-    let a = c .before .before .before .args in
-    omega (arith, chords-rise (at (a .inner .now)) (at (a .outer .now)) (a .a) (a .b) (c .before .before .before .pre .0 .within))
+    let s = c .before .before .before .before in
+    omega (arith, chords-rise (at (s .args .inner .now)) (at (s .args .outer .now)) (s .args .a) (s .args .b) (s .pre .0 .within))
 
 returns : tie.Need-returns
 unfolding between
-returns c = (ap₂ _-_ (c .before .before .covered .ensures .0) (c .covered2 .ensures .0), omega arith)
+returns c = (ap₂ _-_ (c .before .before .before .covered .ensures .0) (c .covered2 .ensures .0), omega arith)
 
 returns-2 : tie.Need-returns-2
 unfolding between
 returns-2 c =
-    let s = c .before .before in
-    let none = chords-far (s .pre .0 .inner) (s .args .a) (s .args .b) (omega arith) in
-    (omega (arith, c .before .covered .ensures .0, none), omega arith)
+    let s = c .before .before .before in
+    let none = chords-far (s .pre .0 .inner) (s .args .a) (s .args .b) (omega (arith, c .before .greater .ensures)) in
+    (omega (arith, c .before .before .covered .ensures .0, none), omega arith)
 
 pub covered-between-spec : {M : Type 1} → statement M
 covered-between-spec =
-    tie.close (tie.spec covered-requires covered-requires-2 sub-result returns returns-2)
+    tie.close (tie.spec covered-requires greater-requires covered-requires-2 sub-result returns returns-2)
