@@ -5,7 +5,8 @@ use Prim.Native.Nat.{ℕ, _+_, _≤_, _<_}
 use native.Mathlib.Omega.{arith}
 use Rattle.numbers.specs.Fraction.{Frac, _⊕_, Within}
 use Rattle.numbers.proofs.Fraction.{⊕-comm, triangle, within-same}
-use Rattle.bound.specs.Exact.{Touch, Sound, AllSound, after, mix, whole, times}
+use Rattle.bound.specs.Exact.{Touch, after, mix, whole, times}
+use Rattle.bound.specs.inner.Sound.{Sound, AllSound}
 use Rattle.bound.proofs.Fractions.{mix-den, mix-within, mix-off}
 
 -- all that the bound rests on: blending bytes gives a byte; its place is within half of the mixture of their places; no two

@@ -7,7 +7,8 @@ use Rattle.numbers.specs.Fraction.{Frac, _over_, _≼_, Within}
 use Rattle.numbers.proofs.Fraction.{within-wider}
 use Rattle.page.specs.Blend.{blend}
 use Rattle.page.proofs.Blend.{blend-byte, blend-within}
-use Rattle.bound.specs.Exact.{Touch, AllSound, mix, whole, byteAfter, exactAfter, half, span, boundOf}
+use Rattle.bound.specs.Exact.{Touch, mix, whole, byteAfter, exactAfter, half, span, boundOf}
+use Rattle.bound.specs.inner.Sound.{AllSound}
 use Rattle.bound.proofs.Fractions.{mix-den, mix-whole}
 use Rattle.bound.proofs.Bound.{Scale, close, exactStep, boundStep, after-den}
 

@@ -1,7 +1,7 @@
 -- One pixel under the shapes that touch it: its byte, its exact blend, and the bound on how far the two are apart.
 use mathlib.Core.List.{List, [], _∷_}
-use Prim.Native.Nat.{ℕ, _+_, _*_, _-_, _≤_, _<_}
-use Rattle.numbers.specs.Fraction.{Frac, _over_, _⊕_, Within}
+use Prim.Native.Nat.{ℕ, _+_, _*_, _-_}
+use Rattle.numbers.specs.Fraction.{Frac, _over_, _⊕_}
 use Rattle.page.specs.Blend.{blend}
 
 -- a whole number as a fraction
@@ -49,17 +49,3 @@ span = 255
 -- half for each touch, and span times what its coverage is off
 unfoldable pub boundOf : List Touch → Frac
 boundOf = after (λ b t. b ⊕ (half ⊕ times span (t .off))) (whole 0)
-
--- what the coverage rules promise of a touch
-pub record Sound (t : Touch) : Type 0 where
-  pub level-le : t .level ≤ 255
-  pub drawn-le : t .drawn .num ≤ t .drawn .den
-  pub drawn-pos : 0 < t .drawn .den
-  pub exact-le : t .exact .num ≤ t .exact .den
-  pub exact-pos : 0 < t .exact .den
-  pub off-pos : 0 < t .off .den
-  pub near : Within (t .drawn) (t .exact) (t .off)
-
-abbrev pub AllSound : List Touch → Type 0
-AllSound [] = Unit {0}
-AllSound (t ∷ ts) = Sound t × AllSound ts

@@ -1,2 +1,3 @@
 -- What contracts say of a pixel's byte and its exact blend.
 pub mod Exact
+pub mod inner

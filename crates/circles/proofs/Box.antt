@@ -5,15 +5,16 @@ use mathlib.Core.List.{List}
 use Prim.Native.Nat.{ℕ, _+_, _-_, _≤_, _<_}
 use native.Mathlib.Nat.{le-trans}
 use native.Mathlib.Omega.{arith}
-use Rattle.page.specs.Blend.{inkOf}
-use Rattle.page.specs.Page.{inView, Lawful, Drawn}
+use Rattle.page.specs.inner.Ink.{inkOf}
+use Rattle.page.specs.inner.Paint.{inView, Lawful, Drawn}
 use Rattle.page.specs.declared.View.{View}
 use Rattle.page.proofs.Clip.{Inside, Outside, left-of, right-of, above, below, clip-ext, clip-shrink, clip-zero}
 use Rattle.page.proofs.Paint.{drawn-none, drawn-ext}
-use Rattle.coverage.specs.Circle.{heightOf, apart, chords}
+use Rattle.coverage.specs.Circle.{heightOf, chords}
+use Rattle.coverage.specs.inner.Circle.{apart}
 use Rattle.coverage.proofs.Height.{height-most, height-falls, height-rises}
-use Rattle.circles.specs.Circle.{discOn, ringOn}
-use Rattle.circles.specs.Row.{at, between, betweenOn, RingDrawn, Heights, Nested, Near, Ready, boxed}
+use Rattle.circles.specs.inner.Circle.{discOn, ringOn}
+use Rattle.circles.specs.inner.Row.{at, between, betweenOn, RingDrawn, Heights, Nested, Reached, Ready, boxed}
 use Rattle.circles.specs.declared.rows.Ring.{Ring}
 use Rattle.circles.proofs.Chords.{chords-far, chords-none, heights-wider}
 use Rattle.circles.proofs.Clamp.{clamped-low, clamped-high, clamped-rises, before-clamped, from-clamped, between-clamped, apart-near, apart-left, apart-right}
@@ -53,7 +54,7 @@ module _ (view : View) (ring : Ring) (R : ℕ) {size : ℕ} (law : Lawful view s
         y-most = le-trans (clamped-high (view .y0) (view .y1) (ring .cy + R)) (law .y-most);
       }
 
-  boxed-near : R ≤ 255 → Near (boxed view ring R) ring
+  boxed-near : R ≤ 255 → Reached (boxed view ring R) ring
   boxed-near h =
       record {
         columns = λ x p q. near (ring .cx) (x + 4096) (between-clamped _ _ (ring .cx - R) (ring .cx + R) x (law .x-order) p q);

@@ -7,7 +7,7 @@ use native.Mathlib.Omega.{arith}
 use Rattle.numbers.proofs.Order.{lt-or-le}
 use Rattle.coverage.specs.Circle.{chord, chords}
 use Rattle.coverage.proofs.Chord.{chords-rise, chords-le}
-use Rattle.circles.specs.Row.{between, Heights, Nested, Measured}
+use Rattle.circles.specs.inner.Row.{between, Heights, Nested, Measured}
 
 chord-le : (y z m n : ℕ) → y ≤ z → n ≤ m → min (y - 256 * m) 256 ≤ min (z - 256 * n) 256
 chord-le y z m n h k = omega arith

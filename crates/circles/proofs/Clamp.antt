@@ -1,8 +1,8 @@
 -- Laws of the columns and rows of a clip, and of distances from a centre.
 use Prim.Native.Nat.{ℕ, _+_, _-_, _≤_, _<_}
 use native.Mathlib.Omega.{arith}
-use Rattle.coverage.specs.Circle.{apart}
-use Rattle.circles.specs.Row.{clamped}
+use Rattle.coverage.specs.inner.Circle.{apart}
+use Rattle.circles.specs.inner.Row.{clamped}
 
 pub clamped-low : (lo hi c : ℕ) → lo ≤ hi → lo ≤ clamped lo hi c
 clamped-low lo hi c h = omega arith

@@ -5,12 +5,12 @@ use mathlib.Core.List.{List}
 use Prim.Native.Nat.{ℕ, _+_, _-_, _≤_, _<_}
 use native.Mathlib.Omega.{arith}
 use lib.ListN.{length}
-use Rattle.page.specs.Page.{clipped, Drawn}
+use Rattle.page.specs.inner.Paint.{clipped, Drawn}
 use Rattle.page.specs.declared.View.{View}
 use Rattle.page.proofs.Clip.{Inside, Outside, left-of, right-of, above, below, clip-ext, clip-shrink, clip-columns}
 use Rattle.page.proofs.Paint.{drawn-ext, drawn-join, drawn-length}
-use Rattle.coverage.specs.Circle.{apart}
-use Rattle.circles.specs.Row.{betweenOn, Ready, Measured, Band, RingDrawn, clamped, leftOf, rightOf}
+use Rattle.coverage.specs.inner.Circle.{apart}
+use Rattle.circles.specs.inner.Row.{betweenOn, Ready, Measured, Band, RingDrawn, clamped, leftOf, rightOf}
 use Rattle.circles.specs.declared.rows.Ring.{Ring}
 use Rattle.circles.specs.declared.cover.Widths.{Widths}
 use Rattle.circles.proofs.Clamp.{clamped-low, clamped-high, clamped-rises, before-clamped, from-clamped, between-clamped, apart-near, apart-left, apart-right}

@@ -1,3 +1,2 @@
--- Discs and rings on a page.
-pub mod Circle
-pub mod Row
+-- Circles have no definition that an entry point cites: what they leave on a page is `coverage`'s and `page`'s.
+pub mod inner

@@ -4,7 +4,7 @@ ghost use mathlib.Core.Path.{_≡_};
 ghost use Prim.Native.Nat.{ℕ, _+_, _-_, _*_, _≤_, _<_, min, max};
 ghost use lib.Dec.{leb};
 ghost use Rattle.coverage.specs.Circle.{chords};
-ghost use Rattle.circles.specs.Row.{at, between, Heights, Nested, Measured};
+ghost use Rattle.circles.specs.inner.Row.{at, between, Heights, Nested, Measured};
 
 // The distances at which a row changes: a hole, an edge, a whole part, an edge.
 pub struct Widths {

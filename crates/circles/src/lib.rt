@@ -8,11 +8,11 @@ use rows::right_at;
 ghost use mathlib.Core.Path.{_≡_};
 ghost use Prim.Native.Nat.{_≤_};
 ghost use lib.ListN.{length};
-ghost use Rattle.page.specs.Blend.{inkOf};
-ghost use Rattle.page.specs.Page.{painted, touches, inView, Lawful};
+ghost use Rattle.page.specs.inner.Ink.{inkOf};
+ghost use Rattle.page.specs.inner.Paint.{painted, touches, inView, Lawful};
 ghost use Rattle.coverage.specs.Circle.{heightOf};
-ghost use Rattle.circles.specs.Circle.{discOn, ringOn};
-ghost use Rattle.circles.specs.Row.{boxed, RingDrawn};
+ghost use Rattle.circles.specs.inner.Circle.{discOn, ringOn};
+ghost use Rattle.circles.specs.inner.Row.{boxed, RingDrawn};
 
 mod cover; // cover.rt: coverage by the distances from the centre
 mod rows; // rows.rt: rows drawn in stretches

@@ -9,10 +9,11 @@ ghost use mathlib.Core.Path.{_≡_};
 ghost use Prim.Native.Nat.{ℕ, _+_, _-_, _≤_, _<_};
 ghost use lib.ListN.{length};
 ghost use Rattle.numbers.specs.Sum.{sumTo};
-ghost use Rattle.page.specs.Blend.{inkOf};
-ghost use Rattle.page.specs.Page.{over, dot, touch, clipped, Lawful, Drawn};
-ghost use Rattle.coverage.specs.Circle.{apart};
-ghost use Rattle.circles.specs.Row.{at, between, Nested, clamped, leftOf, rightOf, Ready, Band, RingDrawn};
+ghost use Rattle.page.specs.inner.Ink.{inkOf};
+ghost use Rattle.page.specs.Page.{over};
+ghost use Rattle.page.specs.inner.Paint.{dot, touch, clipped, Lawful, Drawn};
+ghost use Rattle.coverage.specs.inner.Circle.{apart};
+ghost use Rattle.circles.specs.inner.Row.{at, between, Nested, clamped, leftOf, rightOf, Ready, Band, RingDrawn};
 
 const OFFSET: u64 = 4096;
 

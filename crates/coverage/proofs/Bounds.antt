@@ -6,7 +6,7 @@ use native.Mathlib.Nat.{mul-le-mul, mul-le-mul-left, mul-pos, eq-zero-or-pos}
 use native.Mathlib.Omega.{arith}
 use Rattle.numbers.specs.Fraction.{_over_, Within}
 use Rattle.numbers.proofs.Order.{ring, twice-product}
-use Rattle.coverage.specs.Rows.{cutExcess}
+use Rattle.coverage.specs.inner.Rows.{cutExcess}
 
 -- 8ls + t² = 4s(r + s) + w², where 2s = t + w and 2l = r + w
 third-row : (t w r l s : ℕ) → 2 * s ≡ t + w → 2 * l ≡ r + w → 8 * (l * s) + t * t ≡ 4 * (s * (r + s)) + w * w

@@ -4,18 +4,19 @@ use mathlib.Core.Logic.{⊎-elim}
 use Prim.Native.Nat.{ℕ, _+_, _*_, _-_, _≤_, _<_, min, max}
 use native.Mathlib.Omega.{arith}
 use lib.IntN.{ℤ, _-ℤ_}
-use Rattle.numbers.specs.Coordinate.{offsetOf}
+use Rattle.numbers.specs.inner.Offset.{offsetOf}
 use Rattle.numbers.proofs.Order.{lt-or-le, square-le}
 use Rattle.numbers.proofs.Integer.{Diff, above, below}
 use Rattle.numbers.proofs.Coordinate.{InRange, offset-diff, offset-le}
-use Rattle.shapes.specs.Offsets.{pointOf}
+use Rattle.shapes.specs.inner.Offsets.{pointOf}
 use Rattle.shapes.specs.declared.Point.{Point}
 use Rattle.shapes.specs.declared.Disc.{Disc}
 use Rattle.shapes.specs.declared.Ring.{Ring}
 use Rattle.shapes.specs.declared.Shape.the-variants.{Disc as disc, Ring as ring}
 use Rattle.shapes.proofs.Limits.{LawfulCircle, LawfulRing}
-use Rattle.coverage.specs.Coverage.{exactN, drawnN}
-use Rattle.coverage.specs.Circle.{halfRoot, heightOf, folded, apart, chord, chords, discAt, ringAt, Around, Narrowed}
+use Rattle.coverage.specs.Coverage.{rulesOf, drawnN}
+use Rattle.coverage.specs.Circle.{halfRoot, heightOf, folded, chord, chords, discCover, ringCover}
+use Rattle.coverage.specs.inner.Circle.{apart, Around, Narrowed}
 use Rattle.coverage.proofs.Height.{half-root-le, half-root-low, half-root-most, height-rises}
 
 -- ---- one pixel
@@ -58,39 +59,39 @@ folded-diff (below p) = omega arith
 
 module _ {cx cy x y : ℤ} (pcx : InRange cx) (pcy : InRange cy) (px : InRange x) (py : InRange y) where
   -- by the offsets of the centre and of the pixel
-  pub disc-offset : (R : ℕ) → discAt R cx cy x y ≡ chords (heightOf R) (apart (offsetOf cx) (offsetOf x)) (apart (offsetOf cy) (offsetOf y))
-  unfolding discAt
+  pub disc-offset : (R : ℕ) → discCover R cx cy x y ≡ chords (heightOf R) (apart (offsetOf cx) (offsetOf x)) (apart (offsetOf cy) (offsetOf y))
+  unfolding discCover
   disc-offset R = ap₂ (chords (heightOf R)) (folded-diff (offset-diff px pcx)) (folded-diff (offset-diff py pcy))
 
 -- no pixel has more than the whole
-pub disc-le : (R : ℕ) (cx cy x y : ℤ) → discAt R cx cy x y ≤ 512
-unfolding discAt
+pub disc-le : (R : ℕ) (cx cy x y : ℤ) → discCover R cx cy x y ≤ 512
+unfolding discCover
 disc-le R cx cy x y = chords-le (heightOf R) (folded (x -ℤ cx)) (folded (y -ℤ cy))
 
 -- a smaller disc covers no more, so that no ring is negative
-pub disc-rises : (R S : ℕ) (cx cy x y : ℤ) → R ≤ S → discAt R cx cy x y ≤ discAt S cx cy x y
-unfolding discAt
+pub disc-rises : (R S : ℕ) (cx cy x y : ℤ) → R ≤ S → discCover R cx cy x y ≤ discCover S cx cy x y
+unfolding discCover
 disc-rises R S cx cy x y h = chords-rise (heightOf R) (heightOf S) (folded (x -ℤ cx)) (folded (y -ℤ cy)) (λ k. height-rises R S k h)
 
-pub ring-whole : (R w : ℕ) (cx cy x y : ℤ) → ringAt R w cx cy x y + discAt (R - w) cx cy x y ≡ discAt R cx cy x y
-unfolding ringAt
+pub ring-whole : (R w : ℕ) (cx cy x y : ℤ) → ringCover R w cx cy x y + discCover (R - w) cx cy x y ≡ discCover R cx cy x y
+unfolding ringCover
 ring-whole R w cx cy x y = omega (arith, disc-rises (R - w) R cx cy x y (omega arith))
 
-pub ring-le : (R w : ℕ) (cx cy x y : ℤ) → ringAt R w cx cy x y ≤ 512
+pub ring-le : (R w : ℕ) (cx cy x y : ℤ) → ringCover R w cx cy x y ≤ 512
 ring-le R w cx cy x y = omega (arith, ring-whole R w cx cy x y, disc-le R cx cy x y)
 
 -- what a query answers, by the offsets
 module _ {x y : ℤ} (px : InRange x) (py : InRange y) where
   pub disc-drawn : (d : Disc) → LawfulCircle (d .x) (d .y) (d .radius)
       → chords (heightOf (d .radius)) (apart (offsetOf (d .x)) (offsetOf x)) (apart (offsetOf (d .y)) (offsetOf y)) ≡ drawnN (disc d) x y
-  unfolding drawnN exactN
+  unfolding rulesOf
   disc-drawn d w = sym (disc-offset (w .x-in) (w .y-in) px py (d .radius))
 
   pub ring-drawn : (g : Ring) → LawfulRing g
       → chords (heightOf (g .radius)) (apart (offsetOf (g .x)) (offsetOf x)) (apart (offsetOf (g .y)) (offsetOf y))
       - chords (heightOf (g .radius - g .width)) (apart (offsetOf (g .x)) (offsetOf x)) (apart (offsetOf (g .y)) (offsetOf y))
       ≡ drawnN (ring g) x y
-  unfolding drawnN exactN ringAt
+  unfolding rulesOf ringCover
   ring-drawn g w =
       let at = disc-offset (w .circle .x-in) (w .circle .y-in) px py in
       sym (ap₂ _-_ (at (g .radius)) (at (g .radius - g .width)))

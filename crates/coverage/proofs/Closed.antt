@@ -11,7 +11,7 @@ use lib.Signed.{leZ}
 use Rattle.numbers.proofs.Order.{lt-or-le}
 use Rattle.numbers.proofs.Integer.{Diff, is-above, is-below, diff-of, diff-pos, diff-sub, diff-add, diff-minus, diff-shift, diff-unique, diff-le, le-diff}
 use Rattle.coverage.specs.Line.{F, levelRow, exactRow, exactWhole, approxWhole, rowOf, restOf, threeRows, excess, flatRows, crossedRows, approxRow}
-use Rattle.coverage.specs.Rows.{cutExcess, exactRows, approxRows, rowsOf, wholeOf, riseOf, cornerOf, atRow}
+use Rattle.coverage.specs.inner.Rows.{cutExcess, exactRows, approxRows, rowsOf, wholeOf, riseOf, cornerOf, atRow}
 use Rattle.coverage.specs.declared.line.Rows.{Rows}
 use Rattle.coverage.proofs.Slant.{row-is}
 use Rattle.coverage.proofs.Bounds.{square-le-rest, lowest, lower-pos, middle-pos}

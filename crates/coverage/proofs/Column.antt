@@ -9,7 +9,7 @@ use Rattle.numbers.specs.Fraction.{_over_, Within}
 use Rattle.numbers.proofs.Order.{ring}
 use Rattle.numbers.proofs.Fraction.{within-same, within-wider}
 use Rattle.coverage.specs.Line.{exactRow, exactWhole, approxRow, approxWhole, rowOf, restOf}
-use Rattle.coverage.specs.Rows.{cutExcess, exactRows, approxRows, atRow}
+use Rattle.coverage.specs.inner.Rows.{cutExcess, exactRows, approxRows, atRow}
 use Rattle.coverage.specs.declared.line.Rows.{Rows}
 use Rattle.coverage.proofs.Bounds.{lower-pos, middle-pos, off-least, off-most, within-by}
 use Rattle.coverage.proofs.Closed.{exact-closed, approx-closed, rest-lt, level-column}
@@ -54,12 +54,12 @@ exact-filled l (suc s) i long short =
     record { upper-touched = zero-square (cutExcess l (suc s) r); middle-touched = omega arith; lower-touched = omega arith; sum = omega arith }
 
 -- the approximate rows are near the exact ones: the middle one within s/(4l), the outer two within s/(8l)
-pub record Near (l s : ℕ) (a e : Rows) : Type 0 where
+pub record RowsNear (l s : ℕ) (a e : Rows) : Type 0 where
   pub upper : Within (a .upper over 4 * l) (e .upper over exactWhole l s) (s over 4 * 2 * l)
   pub middle : Within (a .middle over 4 * l) (e .middle over exactWhole l s) (s over 4 * 1 * l)
   pub lower : Within (a .lower over 4 * l) (e .lower over exactWhole l s) (s over 4 * 2 * l)
 
-pub near-rows : (l s i : ℕ) → 0 < l → s ≤ l → Near l s (approxRows l s (restOf l s i)) (exactRows l s (restOf l s i))
+pub near-rows : (l s i : ℕ) → 0 < l → s ≤ l → RowsNear l s (approxRows l s (restOf l s i)) (exactRows l s (restOf l s i))
 unfolding approxRows exactRows exactWhole
 near-rows l zero i long short =
     let e = level-column l i long .1 in

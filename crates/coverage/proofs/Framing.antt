@@ -8,14 +8,16 @@ use native.Mathlib.Omega.{arith}
 use borrow.Author.Tests.{lt-ltb, le-ltb, le-leb, lt-leb}
 use lib.Dec.{ltb, leb}
 use lib.IntN.{ℤ}
-use Rattle.numbers.specs.Order.{dist}
-use Rattle.numbers.specs.Coordinate.{offsetOf}
+use Rattle.numbers.specs.inner.Order.{dist}
+use Rattle.numbers.specs.inner.Offset.{offsetOf}
 use Rattle.numbers.proofs.Order.{lt-or-le}
 use Rattle.numbers.proofs.Integer.{Diff, diff-pos, diff-neg, diff-minus, diff-shift}
 use Rattle.numbers.proofs.Coordinate.{InRange, in-range, offset-diff, offset-dist, le-offset}
 use Rattle.shapes.specs.declared.Line.{Line}
 use Rattle.shapes.proofs.Limits.{LawfulLine}
-use Rattle.coverage.specs.Frame.{spanX, spanY, longer, shorter, steep, Ends, exchanged, rising, framed, falls, mirrored, columnOf, straightRow, frameRow, Rising, Framed}
+use Rattle.shapes.specs.Span.{spanX, spanY, longer, shorter, steep}
+use Rattle.coverage.specs.Frame.{Ends, exchanged, rising, framed, falls, mirrored, columnOf, straightRow, frameRow}
+use Rattle.coverage.specs.inner.Frame.{Rising, Framed}
 use Rattle.coverage.specs.declared.line.Frame.{Frame}
 
 -- a test that is turned round

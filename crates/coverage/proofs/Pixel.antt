@@ -5,14 +5,16 @@ use Prim.Native.Nat.{ℕ, _+_, _-_, _≤_, _<_}
 use native.Mathlib.Omega.{arith}
 use borrow.Author.Tests.{lt-ltb, le-ltb}
 use lib.IntN.{ℤ, pos, natAbs, subℕ, _-ℤ_}
-use Rattle.numbers.specs.Coordinate.{offsetOf}
+use Rattle.numbers.specs.inner.Offset.{offsetOf}
 use Rattle.numbers.proofs.Integer.{Diff, above, below, diff-sub, diff-pos, diff-minus, diff-shift, diff-unique}
 use Rattle.numbers.proofs.Coordinate.{InRange}
 use Rattle.shapes.specs.declared.Line.{Line}
 use Rattle.coverage.specs.Line.{exactRow, exactWhole, approxRow, approxWhole, rowOf, restOf}
-use Rattle.coverage.specs.Rows.{exactRows, approxRows, atRow}
-use Rattle.coverage.specs.Frame.{longer, shorter, frameRow, Framed}
-use Rattle.coverage.specs.Coverage.{inColumns, lineAt, exactD, drawnN, drawnD}
+use Rattle.coverage.specs.inner.Rows.{exactRows, approxRows, atRow}
+use Rattle.shapes.specs.Span.{longer, shorter}
+use Rattle.coverage.specs.Frame.{frameRow}
+use Rattle.coverage.specs.inner.Frame.{Framed}
+use Rattle.coverage.specs.Coverage.{inColumns, lineCover, lineRules, rulesOf, drawnN, drawnD}
 use Rattle.shapes.specs.declared.Shape.the-variants.{Line as line}
 use Rattle.coverage.specs.declared.line.Frame.{Frame}
 use Rattle.coverage.specs.declared.line.Rows.{Rows}
@@ -31,9 +33,10 @@ either false h k = k
 pub biased-le : (t : Bool) {g y b : ℕ} → y ≤ 8191 → b ≤ 8191 → g ≡ cond t (y + 8191 - b) (b + 8192 - y) → g ≤ 65535
 biased-le t {y = y} {b = b} h k e = rw e (either t (omega arith) (omega arith))
 
-same-either : (t : Bool) → _≡_ {A = ℕ} 0 (cond t 0 0)
-same-either true = refl
-same-either false = refl
+drawn-none : (t : Bool) (n : Line) (x y : ℤ) → lineCover exactRow n x y ≡ 0 → lineCover approxRow n x y ≡ 0 → 0 ≡ lineRules t n .drawn .part x y
+unfolding lineRules
+drawn-none true n x y e a = sym e
+drawn-none false n x y e a = sym a
 
 -- ---- columns
 in-columns : (l : ℕ) (rule : ℕ → ℤ) {z : ℤ} {a b : ℕ} → Diff z a b → b ≤ a → a < b + l → inColumns l rule z ≡ rule (a - b)
@@ -63,12 +66,12 @@ module _ (rule : ℕ → ℕ → ℕ → ℤ → ℤ) {n : Line} {f : Frame} (g 
   abbrev ruled : ℕ → ℤ
   ruled i = rule (longer n) (shorter n) i (frameRow n x y)
 
-  pub left-of : a < f .x → lineAt rule n x y ≡ 0
-  unfolding lineAt
+  pub left-of : a < f .x → lineCover rule n x y ≡ 0
+  unfolding lineCover
   left-of h = ap natAbs (out-left (longer n) ruled (column-diff g px py) h)
 
-  pub right-of : f .x + f .l ≤ a → lineAt rule n x y ≡ 0
-  unfolding lineAt
+  pub right-of : f .x + f .l ≤ a → lineCover rule n x y ≡ 0
+  unfolding lineCover
   right-of h = ap natAbs (out-right (longer n) ruled (column-diff g px py) (omega (arith, g .l-is)))
 
   -- its row counted from −8,192
@@ -83,8 +86,8 @@ module _ (rule : ℕ → ℕ → ℕ → ℤ → ℤ) {n : Line} {f : Frame} (g 
       go false e = diff-shift (b + 8192 - f .y) 8192 (row-rising g px py e) (omega (arith, g .high))
 
   pub inside : (rows : ℕ → ℕ → ℕ → Rows) → Closed rule rows → b ≤ 8191 → f .x ≤ a → a < f .x + f .l
-      → atRow (rows (f .l) (f .s) (restOf (f .l) (f .s) (a - f .x))) (subℕ biased (8192 + rowOf (f .l) (f .s) (a - f .x))) ≡ lineAt rule n x y
-  unfolding lineAt
+      → atRow (rows (f .l) (f .s) (restOf (f .l) (f .s) (a - f .x))) (subℕ biased (8192 + rowOf (f .l) (f .s) (a - f .x))) ≡ lineCover rule n x y
+  unfolding lineCover
   inside rows closed hb h k =
       let i : ℕ = a - f .x in
       let j : ℤ = frameRow n x y in
@@ -99,8 +102,12 @@ module _ (rule : ℕ → ℕ → ℕ → ℤ → ℤ) {n : Line} {f : Frame} (g 
 -- ---- the coverage that a line is drawn with
 module _ {n : Line} {f : Frame} (g : Framed n f) where
   pub whole-drawn : cond (n .exact) (exactWhole (f .l) (f .s)) (approxWhole (f .l)) ≡ drawnD (line n)
-  unfolding drawnD exactD
-  whole-drawn = rw (g .l-is, g .s-is)
+  unfolding rulesOf lineRules
+  whole-drawn = rw (g .l-is, g .s-is) (go (n .exact))
+    where
+      go : (t : Bool) → cond t (exactWhole (longer n) (shorter n)) (approxWhole (longer n)) ≡ lineRules t n .drawn .whole
+      go true = refl
+      go false = refl
 
   module _ {x y : ℤ} (px : InRange x) (py : InRange y) where
     abbrev along : ℕ
@@ -113,23 +120,23 @@ module _ {n : Line} {f : Frame} (g : Framed n f) where
     across-le = either (f .steep) (omega (arith, px .less)) (omega (arith, py .less))
 
     pub drawn-left : along < f .x → 0 ≡ drawnN (line n) x y
-    unfolding drawnN
-    drawn-left h = rw (left-of exactRow g px py h, left-of approxRow g px py h) (same-either (n .exact))
+    unfolding rulesOf
+    drawn-left h = drawn-none (n .exact) n x y (left-of exactRow g px py h) (left-of approxRow g px py h)
 
     pub drawn-right : f .x + f .l ≤ along → 0 ≡ drawnN (line n) x y
-    unfolding drawnN
-    drawn-right h = rw (right-of exactRow g px py h, right-of approxRow g px py h) (same-either (n .exact))
+    unfolding rulesOf
+    drawn-right h = drawn-none (n .exact) n x y (right-of exactRow g px py h) (right-of approxRow g px py h)
 
     pub drawn-inside : across ≤ 8191 → f .x ≤ along → along < f .x + f .l
         → atRow (cond (n .exact) (exactRows (f .l) (f .s) (restOf (f .l) (f .s) (along - f .x))) (approxRows (f .l) (f .s) (restOf (f .l) (f .s) (along - f .x))))
         (subℕ (cond (f .falls) (f .y + 8191 - across) (across + 8192 - f .y)) (8192 + rowOf (f .l) (f .s) (along - f .x)))
         ≡ drawnN (line n) x y
-    unfolding drawnN
+    unfolding rulesOf lineRules
     drawn-inside hb h k = go (n .exact)
       where
         go : (t : Bool)
             → atRow (cond t (exactRows (f .l) (f .s) (restOf (f .l) (f .s) (along - f .x))) (approxRows (f .l) (f .s) (restOf (f .l) (f .s) (along - f .x))))
             (subℕ (cond (f .falls) (f .y + 8191 - across) (across + 8192 - f .y)) (8192 + rowOf (f .l) (f .s) (along - f .x)))
-            ≡ cond t (lineAt exactRow n x y) (lineAt approxRow n x y)
+            ≡ lineRules t n .drawn .part x y
         go true = inside exactRow g px py exactRows exact-is hb h k
         go false = inside approxRow g px py approxRows approx-is hb h k

@@ -8,16 +8,18 @@ use native.Mathlib.Nat.{mul-pos}
 use native.Mathlib.Omega.{arith}
 use lib.Dec.{ltb}
 use lib.IntN.{ℤ, pos, negsuc, natAbs}
-use Rattle.numbers.specs.Fraction.{Frac, _over_, Within}
+use Rattle.numbers.specs.Fraction.{_over_, Within}
 use Rattle.numbers.proofs.Fraction.{within-same}
-use Rattle.shapes.specs.Limits.{shapeFault}
+use Rattle.shapes.specs.Limits.{shapeRefusal}
 use Rattle.shapes.specs.declared.Line.{Line}
 use Rattle.shapes.specs.declared.Shape.{Shape}
 use Rattle.shapes.specs.declared.Shape.the-variants.{Line as line, Disc as disc, Ring as ring}
 use Rattle.shapes.proofs.Limits.{LawfulLine, line-lawful}
 use Rattle.coverage.specs.Line.{exactRow, exactWhole, approxRow, approxWhole}
-use Rattle.coverage.specs.Frame.{longer, shorter, columnOf, frameRow}
-use Rattle.coverage.specs.Coverage.{inColumns, lineAt, exactN, exactD, drawnN, drawnD, offBy}
+use Rattle.shapes.specs.Span.{longer, shorter}
+use Rattle.coverage.specs.Frame.{columnOf, frameRow}
+use Rattle.coverage.specs.Circle.{discCover, ringCover}
+use Rattle.coverage.specs.Coverage.{inColumns, lineCover, Rule, Rules, alike, exactRule, chordRule, lineRules, rulesOf}
 use Rattle.coverage.proofs.Column.{exact-le, approx-le, same-touched, near}
 use Rattle.coverage.proofs.Framing.{some-span, span-le}
 use Rattle.coverage.proofs.Chord.{disc-le, ring-le}
@@ -48,38 +50,38 @@ module _ (n : Line) (w : LawfulLine n) (x y : ℤ) where
   long = some-span n w
 
   both : (R : ℕ → ℕ → Type 0) → R 0 0 → ((i : ℕ) → R (natAbs (exactRow l s i (frameRow n x y))) (natAbs (approxRow l s i (frameRow n x y))))
-      → R (lineAt exactRow n x y) (lineAt approxRow n x y)
-  unfolding lineAt
+      → R (lineCover exactRow n x y) (lineCover approxRow n x y)
+  unfolding lineCover
   both R none each = columns R l (λ i. exactRow l s i (frameRow n x y)) (λ i. approxRow l s i (frameRow n x y)) none each (columnOf n x y)
 
-  line-exact-le : lineAt exactRow n x y ≤ exactWhole l s
+  line-exact-le : lineCover exactRow n x y ≤ exactWhole l s
   line-exact-le = both (λ (e a : ℕ). e ≤ exactWhole l s) (omega arith) (λ i. exact-le l s i (frameRow n x y) long (span-le n))
 
-  line-approx-le : lineAt approxRow n x y ≤ approxWhole l
+  line-approx-le : lineCover approxRow n x y ≤ approxWhole l
   line-approx-le = both (λ (e a : ℕ). a ≤ approxWhole l) (omega arith) (λ i. approx-le l s i (frameRow n x y) long (span-le n))
 
-  line-touched : (0 < lineAt exactRow n x y) ↔ (0 < lineAt approxRow n x y)
+  line-touched : (0 < lineCover exactRow n x y) ↔ (0 < lineCover approxRow n x y)
   line-touched = both (λ (e a : ℕ). (0 < e) ↔ (0 < a)) (λ h. h, λ h. h) (λ i. same-touched l s i (frameRow n x y) long (span-le n))
 
-  line-near : Within (lineAt approxRow n x y over approxWhole l) (lineAt exactRow n x y over exactWhole l s) (s over 4 * l)
+  line-near : Within (lineCover approxRow n x y over approxWhole l) (lineCover exactRow n x y over exactWhole l s) (s over 4 * l)
   line-near =
       both (λ (e a : ℕ). Within (a over approxWhole l) (e over exactWhole l s) (s over 4 * l))
       (within-same (0 over approxWhole l) (0 over exactWhole l s) (s over 4 * l) (omega arith))
       (λ i. near l s i (frameRow n x y) long (span-le n))
 
--- n over d is the exact coverage and n′ over d′ the one that is drawn
-pub record Sound (n d n′ d′ : ℕ) (off : Frac) : Type 0 where
-  pub exact-le : n ≤ d
-  pub exact-pos : 0 < d
-  pub drawn-le : n′ ≤ d′
-  pub drawn-pos : 0 < d′
-  pub off-pos : 0 < off .den
-  pub touched : (0 < n) ↔ (0 < n′)
-  pub near : Within (n′ over d′) (n over d) off
+-- the exact coverage of a pixel, and the one that is drawn
+pub record Sound (r : Rules) (x y : ℤ) : Type 0 where
+  pub exact-le : r .exact .part x y ≤ r .exact .whole
+  pub exact-pos : 0 < r .exact .whole
+  pub drawn-le : r .drawn .part x y ≤ r .drawn .whole
+  pub drawn-pos : 0 < r .drawn .whole
+  pub off-pos : 0 < r .off .den
+  pub touched : (0 < r .exact .part x y) ↔ (0 < r .drawn .part x y)
+  pub near : Within (r .drawn .part x y over r .drawn .whole) (r .exact .part x y over r .exact .whole) (r .off)
 
 -- a shape that is drawn with its exact coverage
-same-sound : (n d : ℕ) → n ≤ d → 0 < d → Sound n d n d (0 over 1)
-same-sound n d h p =
+alike-sound : (r : Rule) (x y : ℤ) → r .part x y ≤ r .whole → 0 < r .whole → Sound (alike r) x y
+alike-sound r x y h p =
     record {
       exact-le = h;
       exact-pos = p;
@@ -87,14 +89,12 @@ same-sound n d h p =
       drawn-pos = p;
       off-pos = omega arith;
       touched = (λ k. k, λ k. k);
-      near = within-same (n over d) (n over d) (0 over 1) refl;
+      near = within-same (r .part x y over r .whole) (r .part x y over r .whole) (0 over 1) refl;
     }
 
-line-sound : (n : Line) → LawfulLine n → (x y : ℤ) (t : Bool)
-    → Sound (lineAt exactRow n x y) (exactWhole (longer n) (shorter n)) (cond t (lineAt exactRow n x y) (lineAt approxRow n x y))
-    (cond t (exactWhole (longer n) (shorter n)) (approxWhole (longer n))) (cond t (0 over 1) (shorter n over 4 * longer n))
-unfolding approxWhole
-line-sound n w x y true = same-sound (lineAt exactRow n x y) (exactWhole (longer n) (shorter n)) (line-exact-le n w x y) (whole-pos (longer n) (shorter n) (long n w x y))
+line-sound : (n : Line) → LawfulLine n → (x y : ℤ) (t : Bool) → Sound (lineRules t n) x y
+unfolding lineRules approxWhole
+line-sound n w x y true = alike-sound (exactRule n) x y (line-exact-le n w x y) (whole-pos (longer n) (shorter n) (long n w x y))
 line-sound n w x y false =
     let p = long n w x y in
     record {
@@ -107,8 +107,8 @@ line-sound n w x y false =
       near = line-near n w x y;
     }
 
-pub sound : (s : Shape) (x y : ℤ) → shapeFault s ≡ 0 → Sound (exactN s x y) (exactD s) (drawnN s x y) (drawnD s) (offBy s)
-unfolding exactN exactD drawnN drawnD offBy
+pub sound : (s : Shape) (x y : ℤ) → shapeRefusal s ≡ 0 → Sound (rulesOf s) x y
+unfolding rulesOf
 sound (line n) x y z = line-sound n (line-lawful n z) x y (n .exact)
-sound (disc d) x y z = same-sound (exactN (disc d) x y) 512 (disc-le (d .radius) (d .x) (d .y) x y) (omega arith)
-sound (ring g) x y z = same-sound (exactN (ring g) x y) 512 (ring-le (g .radius) (g .width) (g .x) (g .y) x y) (omega arith)
+sound (disc d) x y z = alike-sound (chordRule (discCover (d .radius) (d .x) (d .y))) x y (disc-le (d .radius) (d .x) (d .y) x y) (omega arith)
+sound (ring g) x y z = alike-sound (chordRule (ringCover (g .radius) (g .width) (g .x) (g .y))) x y (ring-le (g .radius) (g .width) (g .x) (g .y) x y) (omega arith)

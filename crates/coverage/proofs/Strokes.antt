@@ -7,9 +7,10 @@ use lib.IntN.{ℤ, pos, negsuc}
 use Rattle.shapes.specs.declared.Shape.the-variants.{Line as line, Disc as disc}
 use Rattle.coverage.specs.Edge.{P, slant}
 use Rattle.coverage.specs.Line.{leftHeight, rightHeight, F, levelRow, exactRow, exactWhole, rowOf, restOf, threeRows, excess, flatRows, crossedRows, approxRow, approxWhole}
-use Rattle.coverage.specs.Frame.{spanX, spanY, longer, shorter, steep, exchanged, rising, framed, falls, mirrored, columnOf, straightRow, frameRow}
-use Rattle.coverage.specs.Circle.{heightOf, folded, chord, chords, discAt}
-use Rattle.coverage.specs.Coverage.{inColumns, lineAt, exactN, exactD, drawnN, drawnD}
+use Rattle.shapes.specs.Span.{spanX, spanY, longer, shorter, steep}
+use Rattle.coverage.specs.Frame.{exchanged, rising, framed, falls, mirrored, columnOf, straightRow, frameRow}
+use Rattle.coverage.specs.Circle.{heightOf, folded, chord, chords, discCover}
+use Rattle.coverage.specs.Coverage.{inColumns, lineCover, lineRules, rulesOf, drawnN, drawnD}
 use Rattle.coverage.proofs.Height.{height-is, height-beyond}
 
 -- a line from (0, 0) to (x1, y1), exact or not, has n over d at (x, y)
@@ -51,7 +52,7 @@ pub strokes :
     × Disc 2 (pos 0) (pos 1) 443
     × Disc 2 (pos 1) (pos 1) 187
     × Disc 5 (pos 3) (pos 3) 256
-unfolding P slant leftHeight rightHeight F levelRow exactRow exactWhole rowOf restOf threeRows excess flatRows crossedRows approxRow approxWhole spanX spanY longer shorter steep exchanged rising framed falls mirrored columnOf straightRow frameRow folded chord chords discAt inColumns lineAt exactN exactD drawnN drawnD
+unfolding P slant leftHeight rightHeight F levelRow exactRow exactWhole rowOf restOf threeRows excess flatRows crossedRows approxRow approxWhole spanX spanY longer shorter steep exchanged rising framed falls mirrored columnOf straightRow frameRow folded chord chords discCover inColumns lineCover lineRules rulesOf
 strokes = (
   refl,
   refl,

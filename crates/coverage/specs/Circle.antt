@@ -1,6 +1,6 @@
 -- Discs and rings by the chord rule: a pixel's coverage is taken from the heights of the circle over its two sides.
 use mathlib.Core.Bool.{cond}
-use Prim.Native.Nat.{ℕ, zero, suc, _+_, _*_, _-_, _≤_, _<_, min, max}
+use Prim.Native.Nat.{ℕ, zero, suc, _+_, _*_, _-_, min, max}
 use lib.Dec.{leb}
 use lib.IntN.{ℤ, pos, negsuc, _-ℤ_}
 
@@ -19,10 +19,6 @@ unfoldable pub folded : ℤ → ℕ
 folded (pos c) = c
 folded (negsuc c) = c
 
--- the same by the offsets of the centre c and of the pixel x
-abbrev pub apart : ℕ → ℕ → ℕ
-apart c x = (x - c) + (c - x - 1)
-
 -- C(k): Y(k) − 256·n brought into 0 to 256
 unfoldable pub chord : (ℕ → ℕ) → ℕ → ℕ → ℕ
 chord Y n k = min (Y k - 256 * n) 256
@@ -32,20 +28,9 @@ unfoldable pub chords : (ℕ → ℕ) → ℕ → ℕ → ℕ
 chords Y a b = chord Y (max a b) (min a b) + chord Y (max a b) (min a b + 1)
 
 -- the coverage over 512 of pixel (x, y) by the disc of radius R at (cx, cy); disc 0 covers nothing, since its heights are 0
-unfoldable pub discAt : ℕ → ℤ → ℤ → ℤ → ℤ → ℕ
-discAt R cx cy x y = chords (heightOf R) (folded (x -ℤ cx)) (folded (y -ℤ cy))
+unfoldable pub discCover : ℕ → ℤ → ℤ → ℤ → ℤ → ℕ
+discCover R cx cy x y = chords (heightOf R) (folded (x -ℤ cx)) (folded (y -ℤ cy))
 
 -- by the ring of radius R and width w: that of disc R less that of disc R − w
-unfoldable pub ringAt : ℕ → ℕ → ℤ → ℤ → ℤ → ℤ → ℕ
-ringAt R w cx cy x y = discAt R cx cy x y - discAt (R - w) cx cy x y
-
--- a search for half a root by halves: what holds it stays around it, and gets narrower
-pub record Around (b m low high : ℕ) : Type 0 where
-  pub least : low ≤ halfRoot b m
-  pub less : halfRoot b m < high
-  pub most : high ≤ b + 1
-
-pub record Narrowed (low high m low′ high′ : ℕ) : Type 0 where
-  pub around : (b : ℕ) → Around b m low high → Around b m low′ high′
-  pub smaller : high′ + low < high + low′
-  pub ordered : low′ < high′
+unfoldable pub ringCover : ℕ → ℕ → ℤ → ℤ → ℤ → ℤ → ℕ
+ringCover R w cx cy x y = discCover R cx cy x y - discCover (R - w) cx cy x y

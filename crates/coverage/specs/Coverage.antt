@@ -1,6 +1,6 @@
 -- The coverage of a pixel by a shape, and what a coverage query answers.
-use mathlib.Core.Bool.{cond, _||_}
-use mathlib.Core.List.{[], _∷_}
+use mathlib.Core.Bool.{Bool, true, false, cond, _||_}
+use mathlib.Core.List.{_∷_}
 use Prim.Native.Nat.{ℕ, _*_}
 use lib.Dec.{ltb, eqb}
 use lib.IntN.{ℤ, pos, negsuc, natAbs}
@@ -8,11 +8,12 @@ use Rattle.numbers.specs.Fraction.{Frac, _over_}
 use Rattle.shapes.specs.declared.Line.{Line}
 use Rattle.shapes.specs.declared.Shape.{Shape}
 use Rattle.shapes.specs.declared.Shape.the-variants.{Line as line, Disc as disc, Ring as ring}
-use Rattle.shapes.specs.Limits.{first, outside, offRange, coincide, offRadius, offWidth}
+use Rattle.shapes.specs.Limits.{first, outside, offRange, refusalsOf}
 use Rattle.coverage.specs.Line.{exactRow, exactWhole, approxRow, approxWhole}
-use Rattle.coverage.specs.Frame.{longer, shorter, columnOf, frameRow}
-use Rattle.coverage.specs.Circle.{discAt, ringAt}
-use Rattle.coverage.specs.declared.Share.{Share}
+use Rattle.shapes.specs.Span.{longer, shorter}
+use Rattle.coverage.specs.Frame.{columnOf, frameRow}
+use Rattle.coverage.specs.Circle.{discCover, ringCover}
+use Rattle.coverage.specs.declared.Ratio.{Ratio}
 use Rattle.coverage.specs.declared.Answer.{Answer}
 use Rattle.coverage.specs.declared.Answer.the-variants.{Covered, Refused}
 
@@ -22,49 +23,65 @@ inColumns l rule (pos i) = cond (ltb i l) (rule i) (pos 0)
 inColumns l rule (negsuc i) = pos 0
 
 -- the coverage of pixel (x, y) by a line under one of the two rules
-unfoldable pub lineAt : (ℕ → ℕ → ℕ → ℤ → ℤ) → Line → ℤ → ℤ → ℕ
-lineAt rule n x y = natAbs (inColumns (longer n) (λ i. rule (longer n) (shorter n) i (frameRow n x y)) (columnOf n x y))
+unfoldable pub lineCover : (ℕ → ℕ → ℕ → ℤ → ℤ) → Line → ℤ → ℤ → ℕ
+lineCover rule n x y = natAbs (inColumns (longer n) (λ i. rule (longer n) (shorter n) i (frameRow n x y)) (columnOf n x y))
 
--- the exact coverage, n over d; of a disc or a ring it is that of the chord rule
-unfoldable pub exactN : Shape → ℤ → ℤ → ℕ
-exactN (line n) x y = lineAt exactRow n x y
-exactN (disc d) x y = discAt (d .radius) (d .x) (d .y) x y
-exactN (ring g) x y = ringAt (g .radius) (g .width) (g .x) (g .y) x y
+-- a rule of coverage: n of each pixel (x, y), over one d
+pub record Rule : Type 0 where
+  pub part : ℤ → ℤ → ℕ
+  pub whole : ℕ
 
-unfoldable pub exactD : Shape → ℕ
-exactD (line n) = exactWhole (longer n) (shorter n)
-exactD (disc d) = 512
-exactD (ring g) = 512
+-- the rule that a shape is drawn with, the exact one, and how far the two may be apart
+pub record Rules : Type 0 where
+  pub drawn : Rule
+  pub exact : Rule
+  pub off : Frac
 
--- the coverage that a shape is drawn with: approximate lines have their own
-unfoldable pub drawnN : Shape → ℤ → ℤ → ℕ
-drawnN (line n) x y = cond (n .exact) (lineAt exactRow n x y) (lineAt approxRow n x y)
-drawnN (disc d) x y = exactN (disc d) x y
-drawnN (ring g) x y = exactN (ring g) x y
+abbrev pub alike : Rule → Rules
+alike r = record { drawn = r; exact = r; off = 0 over 1 }
 
-unfoldable pub drawnD : Shape → ℕ
-drawnD (line n) = cond (n .exact) (exactD (line n)) (approxWhole (longer n))
-drawnD (disc d) = 512
-drawnD (ring g) = 512
+abbrev pub exactRule : Line → Rule
+exactRule n = record { part = lineCover exactRow n; whole = exactWhole (longer n) (shorter n) }
 
--- how far the two may be apart: s/(4l) for an approximate line
-unfoldable pub offBy : Shape → Frac
-offBy (line n) = cond (n .exact) (0 over 1) (shorter n over 4 * longer n)
-offBy (disc d) = 0 over 1
-offBy (ring g) = 0 over 1
+-- an approximate line may be s/(4l) off
+unfoldable pub lineRules : Bool → Line → Rules
+lineRules true n = alike (exactRule n)
+lineRules false n =
+    record {
+      drawn = record { part = lineCover approxRow n; whole = approxWhole (longer n) };
+      exact = exactRule n;
+      off = shorter n over 4 * longer n;
+    }
 
--- a query is tried 7 (shape, then pixel), 9, 10, 11
-unfoldable pub queryFault : Shape → ℤ → ℤ → ℕ
-queryFault s x y =
-    first ((offRange s, 7) ∷ (outside x || outside y, 7) ∷ (coincide s, 9) ∷ (offRadius s, 10) ∷ (offWidth s, 11) ∷ [])
+-- of a disc or a ring the exact coverage is that of the chord rule
+abbrev pub chordRule : (ℤ → ℤ → ℕ) → Rule
+chordRule at = record { part = at; whole = 512 }
+
+unfoldable pub rulesOf : Shape → Rules
+rulesOf (line n) = lineRules (n .exact) n
+rulesOf (disc d) = alike (chordRule (discCover (d .radius) (d .x) (d .y)))
+rulesOf (ring g) = alike (chordRule (ringCover (g .radius) (g .width) (g .x) (g .y)))
+
+abbrev pub exactN : Shape → ℤ → ℤ → ℕ
+exactN s = rulesOf s .exact .part
+
+abbrev pub drawnN : Shape → ℤ → ℤ → ℕ
+drawnN s = rulesOf s .drawn .part
+
+abbrev pub drawnD : Shape → ℕ
+drawnD s = rulesOf s .drawn .whole
+
+-- a query is tried 7 (shape, then pixel), then as the shape is
+unfoldable pub queryRefusal : Shape → ℤ → ℤ → ℕ
+queryRefusal s x y = first ((offRange s, 7) ∷ (outside x || outside y, 7) ∷ refusalsOf s)
 
 -- n and d, unreduced, of the rule that the shape is drawn with
-abbrev pub shareOf : Shape → ℤ → ℤ → Share
-shareOf s x y = record { n = drawnN s x y; d = drawnD s }
+abbrev pub ratioOf : Shape → ℤ → ℤ → Ratio
+ratioOf s x y = record { n = drawnN s x y; d = drawnD s }
 
 -- the answer to a query: n and d, or the number of the first refusal
-abbrev pub answerOf : ℕ → Share → Answer
-answerOf fault share = cond (eqb fault 0) (Covered share) (Refused fault)
+abbrev pub queryAnswer : ℕ → Ratio → Answer
+queryAnswer refusal ratio = cond (eqb refusal 0) (Covered ratio) (Refused refusal)
 
 abbrev pub queried : Shape → ℤ → ℤ → Answer
-queried s x y = answerOf (queryFault s x y) (shareOf s x y)
+queried s x y = queryAnswer (queryRefusal s x y) (ratioOf s x y)

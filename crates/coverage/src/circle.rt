@@ -3,11 +3,12 @@ ghost use mathlib.Core.Path.{_≡_};
 ghost use Prim.Native.Nat.{ℕ, _+_, _*_, _-_, _^_, _≤_, _<_, min};
 ghost use lib.ListN.{getD};
 ghost use Rattle.numbers.specs.Coordinate.{inRange};
-ghost use Rattle.shapes.specs.Limits.{shapeFault};
+ghost use Rattle.shapes.specs.Limits.{shapeRefusal};
 ghost use Rattle.shapes.specs.declared.Shape.the-variants.{Disc as asDisc, Ring as asRing};
 ghost use mathlib.Core.Bool.{true};
-ghost use Rattle.coverage.specs.Circle.{halfRoot, heightOf, apart, chords, Narrowed};
-ghost use Rattle.coverage.specs.Coverage.{shareOf};
+ghost use Rattle.coverage.specs.Circle.{halfRoot, heightOf, chords};
+ghost use Rattle.coverage.specs.inner.Circle.{apart, Narrowed};
+ghost use Rattle.coverage.specs.Coverage.{ratioOf};
 
 // The whole number nearest to half the square root of m, searched downwards from y.
 fn half_root(y: u64, m: u64) -> u64
@@ -157,22 +158,22 @@ fn chords_of(radius: u64, a: u64, b: u64) -> u64
 }
 
 // The coverage of a pixel by a disc.
-pub fn disc_share(disc: shapes::Disc, x: i16, y: i16) -> crate::Share
-    requires { ⌜ (shapeFault (asDisc disc) ≡ 0) × (inRange x ≡ true) × (inRange y ≡ true) ⌝ }
-    ensures { λ r. ⌜ r ≡ shareOf (asDisc disc) x y ⌝ }
+pub fn disc_ratio(disc: shapes::Disc, x: i16, y: i16) -> crate::Ratio
+    requires { ⌜ (shapeRefusal (asDisc disc) ≡ 0) × (inRange x ≡ true) × (inRange y ≡ true) ⌝ }
+    ensures { λ r. ⌜ r ≡ ratioOf (asDisc disc) x y ⌝ }
 {
     let c = shapes::point_of(disc.x, disc.y);
     let p = shapes::point_of(x, y);
-    crate::Share {
+    crate::Ratio {
         n: chords_of(disc.radius as u64, apart_of(c.x, p.x), apart_of(c.y, p.y)),
         d: 512,
     }
 }
 
 // The coverage of a pixel by a ring.
-pub fn ring_share(ring: shapes::Ring, x: i16, y: i16) -> crate::Share
-    requires { ⌜ (shapeFault (asRing ring) ≡ 0) × (inRange x ≡ true) × (inRange y ≡ true) ⌝ }
-    ensures { λ r. ⌜ r ≡ shareOf (asRing ring) x y ⌝ }
+pub fn ring_ratio(ring: shapes::Ring, x: i16, y: i16) -> crate::Ratio
+    requires { ⌜ (shapeRefusal (asRing ring) ≡ 0) × (inRange x ≡ true) × (inRange y ≡ true) ⌝ }
+    ensures { λ r. ⌜ r ≡ ratioOf (asRing ring) x y ⌝ }
 {
     let c = shapes::point_of(ring.x, ring.y);
     let p = shapes::point_of(x, y);
@@ -180,7 +181,7 @@ pub fn ring_share(ring: shapes::Ring, x: i16, y: i16) -> crate::Share
     let b = apart_of(c.y, p.y);
     let outer = chords_of(ring.radius as u64, a, b);
     let inner = chords_of((ring.radius - ring.width) as u64, a, b);
-    crate::Share {
+    crate::Ratio {
         n: outer - inner,
         d: 512,
     }

@@ -1,27 +1,27 @@
 // The coverage of a pixel by a shape.
 ghost use mathlib.Core.Path.{_≡_};
-ghost use Rattle.coverage.specs.Coverage.{queryFault, queried};
+ghost use Rattle.coverage.specs.Coverage.{queryRefusal, queried};
 
 pub mod line; // line.rt: the exact and the approximate rule
 pub mod circle; // circle.rt: the heights of a circle and the chord rule
 
 // A coverage of n over d.
-pub struct Share {
+pub struct Ratio {
     pub n: u64,
     pub d: u64,
 }
 
 pub enum Answer {
-    Covered(Share),
+    Covered(Ratio),
     Refused(u8),
 }
 
 // The first refusal of a query: 7 of the shape, 7 of the pixel, then 9, 10 and 11; or 0.
-fn query_fault(shape: shapes::Shape, x: i16, y: i16) -> u8
-    ensures { λ r. ⌜ r ≡ queryFault shape x y ⌝ }
+fn query_refusal(shape: shapes::Shape, x: i16, y: i16) -> u8
+    ensures { λ r. ⌜ r ≡ queryRefusal shape x y ⌝ }
 {
-    let fault = shapes::shape_fault(shape);
-    if fault == 7 {
+    let refusal = shapes::shape_refusal(shape);
+    if refusal == 7 {
         return 7;
     }
     let p = shapes::point_of(x, y);
@@ -31,20 +31,20 @@ fn query_fault(shape: shapes::Shape, x: i16, y: i16) -> u8
     if 8191 < p.y {
         return 7;
     }
-    fault
+    refusal
 }
 
 // The coverage of pixel (x, y) by a shape, n and d as its rule gives them, or the number of the refusal.
 pub fn coverage(shape: shapes::Shape, x: i16, y: i16) -> Answer
     ensures { λ r. ⌜ r ≡ queried shape x y ⌝ }
 {
-    let fault = query_fault(shape, x, y);
-    if 0 < fault {
-        return Answer::Refused(fault);
+    let refusal = query_refusal(shape, x, y);
+    if 0 < refusal {
+        return Answer::Refused(refusal);
     }
     match shape {
-        shapes::Shape::Line(line) => Answer::Covered(line::line_share(line, x, y)),
-        shapes::Shape::Disc(disc) => Answer::Covered(circle::disc_share(disc, x, y)),
-        shapes::Shape::Ring(ring) => Answer::Covered(circle::ring_share(ring, x, y)),
+        shapes::Shape::Line(line) => Answer::Covered(line::line_ratio(line, x, y)),
+        shapes::Shape::Disc(disc) => Answer::Covered(circle::disc_ratio(disc, x, y)),
+        shapes::Shape::Ring(ring) => Answer::Covered(circle::ring_ratio(ring, x, y)),
     }
 }

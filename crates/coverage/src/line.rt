@@ -3,11 +3,11 @@ ghost use mathlib.Core.Path.{_≡_};
 ghost use Prim.Native.Nat.{_+_, _*_, _-_, _≤_, _<_};
 ghost use lib.IntN.{subℕ};
 ghost use Rattle.coverage.specs.Line.{rowOf, restOf};
-ghost use Rattle.coverage.specs.Rows.{riseOf, cornerOf, rowsOf, wholeOf, atRow};
-ghost use Rattle.coverage.specs.Frame.{Rising, Framed};
-ghost use Rattle.coverage.specs.Coverage.{shareOf};
+ghost use Rattle.coverage.specs.inner.Rows.{riseOf, cornerOf, rowsOf, wholeOf, atRow};
+ghost use Rattle.coverage.specs.inner.Frame.{Rising, Framed};
+ghost use Rattle.coverage.specs.Coverage.{ratioOf};
 ghost use Rattle.numbers.specs.Coordinate.{inRange};
-ghost use Rattle.shapes.specs.Limits.{shapeFault};
+ghost use Rattle.shapes.specs.Limits.{shapeRefusal};
 ghost use Rattle.shapes.specs.declared.Shape.the-variants.{Line as asShape};
 ghost use mathlib.Core.Bool.{true, cond};
 
@@ -52,7 +52,7 @@ fn rising_frame(steep: bool, x0: u64, y0: u64, x1: u64, y1: u64) -> Frame
 
 // The frame of a line. Equal spans: x counts as the longer.
 pub fn frame_of(line: shapes::Line) -> Frame
-    requires { ⌜ shapeFault (asShape line) ≡ 0 ⌝ }
+    requires { ⌜ shapeRefusal (asShape line) ≡ 0 ⌝ }
     ensures { λ r. ⌜ Framed line r ⌝ }
 {
     let e = shapes::ends_of(line);
@@ -192,24 +192,24 @@ fn biased_row(f: Frame, b: u64) -> u64
 }
 
 // The coverage of a pixel by a line.
-pub fn line_share(line: shapes::Line, x: i16, y: i16) -> crate::Share
-    requires { ⌜ (shapeFault (asShape line) ≡ 0) × (inRange x ≡ true) × (inRange y ≡ true) ⌝ }
-    ensures { λ r. ⌜ r ≡ shareOf (asShape line) x y ⌝ }
+pub fn line_ratio(line: shapes::Line, x: i16, y: i16) -> crate::Ratio
+    requires { ⌜ (shapeRefusal (asShape line) ≡ 0) × (inRange x ≡ true) × (inRange y ≡ true) ⌝ }
+    ensures { λ r. ⌜ r ≡ ratioOf (asShape line) x y ⌝ }
 {
     let f = frame_of(line);
     let d = whole_of(line.exact, f.l, f.s);
     let p = shapes::point_of(x, y);
     let a = either(f.steep, p.y, p.x);
     if a < f.x {
-        return crate::Share { n: 0, d };
+        return crate::Ratio { n: 0, d };
     }
     if f.x + f.l <= a {
-        return crate::Share { n: 0, d };
+        return crate::Ratio { n: 0, d };
     }
     let c = crossing_at(f.l, f.s, a - f.x);
     let rows = rows_of(line.exact, f.l, f.s, c.r, d);
     let g = biased_row(f, either(f.steep, p.x, p.y));
-    crate::Share {
+    crate::Ratio {
         n: row_at(rows, g, 8192 + c.q),
         d,
     }

@@ -1,3 +1,3 @@
 -- Laws of one shape on a page.
-pub mod Faults
+pub mod Refusals
 pub mod Touches

@@ -12,8 +12,8 @@ use borrow.Author.Tests.{lt-ltb, le-ltb}
 use Rattle.numbers.proofs.Order.{lt-or-le}
 use Rattle.numbers.proofs.Sum.{sum-ext}
 use Rattle.numbers.proofs.Coordinate.{in-range, pixel-in, pixel-offset}
-use Rattle.shapes.specs.Limits.{shapeFault}
-use Rattle.shapes.specs.Offsets.{pointOf}
+use Rattle.shapes.specs.Limits.{shapeRefusal}
+use Rattle.shapes.specs.inner.Offsets.{pointOf}
 use Rattle.shapes.specs.declared.Clip.{Clip}
 use Rattle.shapes.specs.declared.Disc.{Disc}
 use Rattle.shapes.specs.declared.Point.{Point}
@@ -24,15 +24,17 @@ use Rattle.shapes.proofs.Limits.{disc-lawful, ring-lawful}
 use Rattle.coverage.specs.Coverage.{exactN, drawnN, drawnD}
 use Rattle.coverage.proofs.Chord.{disc-drawn, ring-drawn}
 use Rattle.coverage.proofs.Soundness.{sound}
-use Rattle.page.specs.Blend.{blend, inkOf}
-use Rattle.page.specs.Page.{dot, touch, clipped, painted, touches, inView, Lawful, Drawn}
+use Rattle.page.specs.Blend.{blend}
+use Rattle.page.specs.inner.Ink.{inkOf}
+use Rattle.page.specs.inner.Paint.{dot, touch, clipped, painted, touches, inView, Lawful, Drawn}
 use Rattle.page.specs.declared.View.{View}
 use Rattle.page.proofs.Clip.{clip-ext}
 use Rattle.page.proofs.Over.{over-ext}
 use Rattle.page.proofs.Paint.{drawn-ext}
-use Rattle.circles.specs.Circle.{discOn, ringOn}
-use Rattle.draw.specs.Touch.{keeps, touched, byteAfter, pageAfter, touchCount}
-use Rattle.draw.specs.Draw.{shapeOn, viewOf}
+use Rattle.circles.specs.inner.Circle.{discOn, ringOn}
+use Rattle.draw.specs.Touch.{keeps, touched, shapeByte, pageAfter, touchCount}
+use Rattle.coverage.specs.inner.OnPage.{shapeOn}
+use Rattle.draw.specs.inner.View.{viewOf}
 
 -- ---- touched pixels
 
@@ -42,12 +44,12 @@ same-test m n e = ⊎-elim (λ h. lt-ltb 0 m h ∙ sym (lt-ltb 0 n (e .0 h))) (�
     none : m ≤ 0 → n ≤ 0
     none h = ⊎-elim (λ k. absurd (omega (arith, e .1 k))) (λ k. k) (lt-or-le 0 n)
 
-module _ (w h : ℕ) (c : Clip) (v : ℕ) (s : Shape) (lawful : shapeFault s ≡ 0) where
+module _ (w h : ℕ) (c : Clip) (v : ℕ) (s : Shape) (lawful : shapeRefusal s ≡ 0) where
   touched-drawn : (x y : ℕ) → ltb 0 (exactN s (pos x) (pos y)) ≡ ltb 0 (drawnN s (pos x) (pos y))
   touched-drawn x y = same-test (exactN s (pos x) (pos y)) (drawnN s (pos x) (pos y)) (sound s (pos x) (pos y) lawful .touched)
 
-  byte : (x y u : ℕ) → dot (inkOf v (drawnD s)) (inView (viewOf w h c) (shapeOn s) x y) u ≡ byteAfter c v s x y u
-  unfolding dot clipped byteAfter touched keeps
+  byte : (x y u : ℕ) → dot (inkOf v (drawnD s)) (inView (viewOf w h c) (shapeOn s) x y) u ≡ shapeByte c v s x y u
+  unfolding dot clipped shapeByte touched keeps
   byte x y u =
       rw (touched-drawn x y) (go (leb (c .x0) x && ltb x (c .x1) && leb (c .y0) y && ltb y (c .y1)))
     where
@@ -95,7 +97,7 @@ module _ {view : View} {size : ℕ} (w : Lawful view size) {ink : ℕ → ℕ �
       (λ x y i. same x y (omega (arith, i .right, w .x-most, w .w-most)) (omega (arith, i .bottom, w .y-most, w .h-most))))
       (record { page = page; count = count })
 
-  pub disc-on : {c : Point} (d : Disc) → shapeFault (disc d) ≡ 0 → c ≡ pointOf (d .x) (d .y)
+  pub disc-on : {c : Point} (d : Disc) → shapeRefusal (disc d) ≡ 0 → c ≡ pointOf (d .x) (d .y)
       → m ≡ painted (view .w) ink (inView view (discOn (d .radius) (c .x) (c .y))) l
       → t ≡ touches (view .w) (view .h) (inView view (discOn (d .radius) (c .x) (c .y)))
       → Drawn (view .w) (view .h) ink (inView view (shapeOn (disc d))) l m t
@@ -105,7 +107,7 @@ module _ {view : View} {size : ℕ} (w : Lawful view size) {ink : ℕ → ℕ �
       (λ x y p q. rw (e, ← pixel-offset x p, ← pixel-offset y q)
       (disc-drawn (in-range (pos x) (pixel-in x p)) (in-range (pos y) (pixel-in y q)) d (disc-lawful d z)))
 
-  pub ring-on : {c : Point} (g : Ring) → shapeFault (ring g) ≡ 0 → c ≡ pointOf (g .x) (g .y)
+  pub ring-on : {c : Point} (g : Ring) → shapeRefusal (ring g) ≡ 0 → c ≡ pointOf (g .x) (g .y)
       → m ≡ painted (view .w) ink (inView view (ringOn (g .radius) (g .width) (c .x) (c .y))) l
       → t ≡ touches (view .w) (view .h) (inView view (ringOn (g .radius) (g .width) (c .x) (c .y)))
       → Drawn (view .w) (view .h) ink (inView view (shapeOn (ring g))) l m t

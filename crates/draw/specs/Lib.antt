@@ -1,3 +1,4 @@
 -- One shape on a lent page.
 pub mod Touch
 pub mod Draw
+pub mod inner

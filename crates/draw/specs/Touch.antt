@@ -20,12 +20,12 @@ unfoldable pub touched : Clip → Shape → ℕ → ℕ → Bool
 touched c s x y = keeps c x y && ltb 0 (exactN s (pos x) (pos y))
 
 -- the byte u of pixel (x, y) after a shape of level v: a touched pixel is blended by the coverage that the shape is drawn with
-unfoldable pub byteAfter : Clip → ℕ → Shape → ℕ → ℕ → ℕ → ℕ
-byteAfter c v s x y u = cond (touched c s x y) (blend u v (drawnN s (pos x) (pos y)) (drawnD s)) u
+unfoldable pub shapeByte : Clip → ℕ → Shape → ℕ → ℕ → ℕ → ℕ
+shapeByte c v s x y u = cond (touched c s x y) (blend u v (drawnN s (pos x) (pos y)) (drawnD s)) u
 
 -- a page of width w after it: pixel (x, y) is byte y·w + x
 unfoldable pub pageAfter : ℕ → Clip → ℕ → Shape → List ℕ → List ℕ
-pageAfter w c v s = over (λ k. byteAfter c v s (k % w) (k / w))
+pageAfter w c v s = over (λ k. shapeByte c v s (k % w) (k / w))
 
 -- how many pixels of a page of w by h it touches
 unfoldable pub touchCount : ℕ → ℕ → Clip → Shape → ℕ

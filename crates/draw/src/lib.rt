@@ -4,12 +4,14 @@ use shapes::Clip;
 use shapes::Shape;
 ghost use mathlib.Core.Path.{_≡_};
 ghost use lib.ListN.{length};
-ghost use Rattle.shapes.specs.Limits.{shapeFault};
+ghost use Rattle.shapes.specs.Limits.{shapeRefusal};
 ghost use Rattle.shapes.specs.declared.Shape.the-variants.{Disc as asDisc, Ring as asRing};
 ghost use Rattle.coverage.specs.Coverage.{drawnD};
-ghost use Rattle.page.specs.Blend.{inkOf};
-ghost use Rattle.page.specs.Page.{inView, Lawful, Drawn};
-ghost use Rattle.draw.specs.Draw.{drawFault, outcome, pageOf, shapeOn, viewOf};
+ghost use Rattle.page.specs.inner.Ink.{inkOf};
+ghost use Rattle.page.specs.inner.Paint.{inView, Lawful, Drawn};
+ghost use Rattle.draw.specs.Draw.{drawRefusal, shapeOutcome, shapePage};
+ghost use Rattle.coverage.specs.inner.OnPage.{shapeOn};
+ghost use Rattle.draw.specs.inner.View.{viewOf};
 
 // How many pixels a shape touched, or the number of the refusal.
 pub enum Outcome {
@@ -18,26 +20,26 @@ pub enum Outcome {
 }
 
 // The first refusal of a shape on a page of size bytes, or 0.
-fn draw_fault(w: u16, h: u16, size: usize, clip: Clip, shape: Shape) -> u8
-    ensures { λ r. ⌜ r ≡ drawFault w h size clip shape ⌝ }
+fn draw_refusal(w: u16, h: u16, size: usize, clip: Clip, shape: Shape) -> u8
+    ensures { λ r. ⌜ r ≡ drawRefusal w h size clip shape ⌝ }
 {
-    let page_fault = shapes::size_fault(w, h);
-    if 0 < page_fault {
-        return page_fault;
+    let page_refusal = shapes::size_refusal(w, h);
+    if 0 < page_refusal {
+        return page_refusal;
     }
     if size < (w as usize) * (h as usize) {
         return 21;
     }
-    let clip_fault = shapes::clip_fault(w, h, clip);
-    if 0 < clip_fault {
-        return clip_fault;
+    let clip_refusal = shapes::clip_refusal(w, h, clip);
+    if 0 < clip_refusal {
+        return clip_refusal;
     }
-    shapes::shape_fault(shape)
+    shapes::shape_refusal(shape)
 }
 
 // Draws a disc given by its own fields.
 fn draw_disc(page: &mut [u8], view: View, disc: shapes::Disc, level: u8) -> u64
-    requires { ⌜ Lawful view (length (now page)) × (shapeFault (asDisc disc) ≡ 0) ⌝ }
+    requires { ⌜ Lawful view (length (now page)) × (shapeRefusal (asDisc disc) ≡ 0) ⌝ }
     ensures { λ t. ⌜ Drawn (view .w) (view .h) (inkOf level 512) (inView view (shapeOn (asDisc disc))) (now (page .entry)) (now (page .exit)) t ⌝ }
 {
     let c = shapes::point_of(disc.x, disc.y);
@@ -46,7 +48,7 @@ fn draw_disc(page: &mut [u8], view: View, disc: shapes::Disc, level: u8) -> u64
 
 // Draws a ring given by its own fields.
 fn draw_ring(page: &mut [u8], view: View, ring: shapes::Ring, level: u8) -> u64
-    requires { ⌜ Lawful view (length (now page)) × (shapeFault (asRing ring) ≡ 0) ⌝ }
+    requires { ⌜ Lawful view (length (now page)) × (shapeRefusal (asRing ring) ≡ 0) ⌝ }
     ensures { λ t. ⌜ Drawn (view .w) (view .h) (inkOf level 512) (inView view (shapeOn (asRing ring))) (now (page .entry)) (now (page .exit)) t ⌝ }
 {
     let c = shapes::point_of(ring.x, ring.y);
@@ -63,7 +65,7 @@ fn draw_ring(page: &mut [u8], view: View, ring: shapes::Ring, level: u8) -> u64
 
 // Draws a lawful shape; hands back how many pixels it touched.
 pub fn draw_lawful(page: &mut [u8], view: View, level: u8, shape: Shape) -> u64
-    requires { ⌜ Lawful view (length (now page)) × (shapeFault shape ≡ 0) ⌝ }
+    requires { ⌜ Lawful view (length (now page)) × (shapeRefusal shape ≡ 0) ⌝ }
     ensures { λ t. ⌜ Drawn (view .w) (view .h) (inkOf level (drawnD shape)) (inView view (shapeOn shape)) (now (page .entry)) (now (page .exit)) t ⌝ }
 {
     match shape {
@@ -89,12 +91,12 @@ pub fn view_of(w: u16, h: u16, clip: Clip) -> View
 
 // Draws a shape inside a clip on a page of w by h, or refuses it and leaves the page as it was.
 pub fn draw_shape(page: &mut [u8], w: u16, h: u16, clip: Clip, level: u8, shape: Shape) -> Outcome
-    ensures { λ r. ⌜ r ≡ outcome w h (length (now (page .entry))) clip shape ⌝ }
-    ensures { λ r. ⌜ now (page .exit) ≡ pageOf w h clip level shape (now (page .entry)) ⌝ }
+    ensures { λ r. ⌜ r ≡ shapeOutcome w h (length (now (page .entry))) clip shape ⌝ }
+    ensures { λ r. ⌜ now (page .exit) ≡ shapePage w h clip level shape (now (page .entry)) ⌝ }
 {
-    let fault = draw_fault(w, h, page.len(), clip, shape);
-    if 0 < fault {
-        return Outcome::Refused(fault);
+    let refusal = draw_refusal(w, h, page.len(), clip, shape);
+    if 0 < refusal {
+        return Outcome::Refused(refusal);
     }
     let view = view_of(w, h, clip);
     Outcome::Touched(draw_lawful(page, view, level, shape))

@@ -11,7 +11,7 @@ use borrow.Author.Tests.{lt-ltb, le-ltb}
 use lib.Dec.{ltb}
 use lib.IntN.{pos}
 use lib.ListN.{length, getD, take, drop, length-take}
-use Rattle.shapes.specs.Limits.{shapeFault}
+use Rattle.shapes.specs.Limits.{shapeRefusal}
 use Rattle.shapes.specs.declared.Record.{Record}
 use Rattle.coverage.proofs.Soundness.{sound}
 use Rattle.page.specs.Page.{over}
@@ -21,40 +21,29 @@ use Rattle.lists.specs.Format.{headerAt}
 use Rattle.lists.specs.List.{Records, accepted, refused, recordsOf, checkedAs, checkedOf}
 use Rattle.lists.specs.declared.format.Header.{Header}
 use Rattle.lists.specs.declared.check.Checked.the-variants.{Accepted, Refused}
-use Rattle.lists.proofs.Faults.{headed}
-use Rattle.lists.proofs.Accepted.{list-headed, AcceptedAs, checked-accepted}
-use Rattle.bound.specs.Exact.{Touch, whole, byteAfter, Sound, AllSound}
+use Rattle.bound.specs.Exact.{Touch, whole, byteAfter}
+use Rattle.bound.specs.inner.Sound.{Sound, AllSound}
 use Rattle.bound.proofs.Levels.{close-to-exact, exact-den, bound-den}
 use Rattle.draw.specs.Touch.{touched}
-use Rattle.draw.proofs.Faults.{view-lawful}
-use Rattle.drawing.specs.Drawing.{Drawing, start, drawings, touchOf, touchesAt}
+use Rattle.draw.proofs.Refusals.{view-lawful}
+use Rattle.lists.specs.Drawing.{Drawing, drawings}
+use Rattle.lists.specs.Settings.{start}
+use Rattle.drawing.specs.Touches.{touchOf, touchesAt}
 use Rattle.drawing.specs.Page.{drawnPage, shapesCount}
-use Rattle.drawing.specs.Walk.{recordsIn, listRecords, listDrawings, Drawable, painted, AllLawful}
-use Rattle.drawing.specs.Claim.{answerOf, answerByPixels, pageOf, Near, Bounded}
+use Rattle.lists.specs.inner.Walk.{listDrawings}
+use Rattle.drawing.specs.inner.Walk.{Drawable, touchedPage, AllLawful}
+use Rattle.drawing.specs.Claim.{listAnswer, answerByPixels, listPage, ByteBounded, Bounded}
 use Rattle.drawing.specs.declared.Answer.{Answer}
 use Rattle.drawing.specs.declared.Answer.the-variants.{Drawn, Refused as refusedAt}
 use Rattle.drawing.proofs.Shapes.{counts-same}
-use Rattle.drawing.proofs.Records.{start-clip}
-
--- ---- an accepted list can be drawn
-
-pub records-are : (s : List ℕ) (n : ℕ) (rs : List Record) → recordsOf s n ≡ accepted rs → listRecords (headerAt s .w) (headerAt s .h) s ≡ accepted rs
-unfolding recordsOf listRecords
-records-are s n rs e = let none = list-headed s n rs e in rw none at e
-
-pub drawable : (s : List ℕ) (n : ℕ) (rs : List Record) → recordsOf s n ≡ accepted rs → (size : ℕ) → headerAt s .w * headerAt s .h ≤ size
-    → Drawable s (headerAt s .w) (headerAt s .h) size
-unfolding recordsIn
-drawable s n rs e size room =
-    let d = headed s n (list-headed s n rs e) in
-    let k = records-are s n rs e in
-    record { page = d .size; room = room; least = d .least; most = d .most; is = k ∙ ap accepted (sym (ap recordsIn k)) }
+use Rattle.lists.proofs.Left.{start-clip}
+use Rattle.lists.proofs.Walkable.{found, room, list-walkable, drawings-are}
 
 -- ---- the bytes
 
--- the part that is lent, painted, in front of the bytes past it
-pub page-whole : (w h b : ℕ) (ds : List Drawing) (l m : List ℕ) → w * h ≤ length l → m ≡ painted w b ds (take (w * h) l) → m ++ drop (w * h) l ≡ drawnPage w h b ds l
-unfolding painted drawnPage
+-- the part that is lent, touchedPage, in front of the bytes past it
+pub page-whole : (w h b : ℕ) (ds : List Drawing) (l m : List ℕ) → w * h ≤ length l → m ≡ touchedPage w b ds (take (w * h) l) → m ++ drop (w * h) l ≡ drawnPage w h b ds l
+unfolding touchedPage drawnPage
 page-whole w h b ds l m room e =
     let n : w * h ≡ w * h - 0 = omega arith in
     ap (λ (q : List ℕ). m ++ q) (sym (post-is 0 (w * h) l (omega arith)))
@@ -72,7 +61,7 @@ page-whole w h b ds l m room e =
 
 -- ---- the bound
 
-touch-sound : (d : Drawing) (x y : ℕ) → d .settings .level ≤ 255 → shapeFault (d .shape) ≡ 0 → Sound (touchOf d x y)
+touch-sound : (d : Drawing) (x y : ℕ) → d .settings .level ≤ 255 → shapeRefusal (d .shape) ≡ 0 → Sound (touchOf d x y)
 touch-sound d x y v z =
     let s = sound (d .shape) (pos x) (pos y) z in
     record {
@@ -94,7 +83,7 @@ touches-sound (d ∷ ds) x y a = go (touched (d .settings .clip) (d .shape) x y)
     go true s = (touch-sound d x y (a .0) (a .1), s)
     go false s = s
 
-pub near : (b : ℕ) (ts : List Touch) → b ≤ 255 → AllSound ts → Near (byteAfter b ts) b ts
+pub near : (b : ℕ) (ts : List Touch) → b ≤ 255 → AllSound ts → ByteBounded (byteAfter b ts) b ts
 near b ts h s = record { exact-pos = exact-den (whole b) ts s (omega arith); bound-pos = bound-den ts s; within = close-to-exact b ts h s }
 
 -- pixel (x, y) of the page
@@ -111,18 +100,18 @@ byte-is w h b ds l x y room i j =
     ∙ rw (lt-ltb (y * w + x) (w * h) inside, column, line)
 
 pub all-near : (w h b : ℕ) (ds : List Drawing) (l : List ℕ) → w * h ≤ length l → b ≤ 255 → AllLawful ds
-    → (x y : ℕ) → x < w → y < h → Near (getD (drawnPage w h b ds l) (y * w + x) 0) b (touchesAt ds x y)
+    → (x y : ℕ) → x < w → y < h → ByteBounded (getD (drawnPage w h b ds l) (y * w + x) 0) b (touchesAt ds x y)
 all-near w h b ds l room v a x y i j =
-    subst (λ (u : ℕ). Near u b (touchesAt ds x y)) (sym (byte-is w h b ds l x y room i j)) (near b (touchesAt ds x y) v (touches-sound ds x y a))
+    subst (λ (u : ℕ). ByteBounded u b (touchesAt ds x y)) (sym (byte-is w h b ds l x y room i j)) (near b (touchesAt ds x y) v (touches-sound ds x y a))
 
 -- ---- the claim about a list
 
 -- the four promises: a list with the header d and the records x answers r on the page l, and leaves m
 abbrev pub Claimed : Header → Records → List ℕ → Answer → List ℕ → Type 0
-Claimed d x l r m = (r ≡ answerOf d x) × ((m ≡ pageOf d x l) × (Bounded d x m × (r ≡ answerByPixels d x)))
+Claimed d x l r m = (r ≡ listAnswer d x) × ((m ≡ listPage d x l) × (Bounded d x m × (r ≡ answerByPixels d x)))
 
 pub refused-claim : (s l : List ℕ) (f place : ℕ) → Refused f place ≡ checkedOf s (length l) → Claimed (headerAt s) (recordsOf s (length l)) l (refusedAt f place) l
-unfolding answerOf answerByPixels pageOf Bounded
+unfolding listAnswer answerByPixels listPage Bounded
 refused-claim s l f place e = go (recordsOf s (length l)) e
   where
     go : (x : Records) → Refused f place ≡ checkedAs (headerAt s) x → Claimed (headerAt s) x l (refusedAt f place) l
@@ -130,56 +119,43 @@ refused-claim s l f place e = go (recordsOf s (length l)) e
     go (refused g q) k = let a : f ≡ g = cc in let b : place ≡ q = cc in (rw (a, b), (refl, (tt, rw (a, b))))
 
 module _ (s l : List ℕ) (d : Header) (e : Accepted d ≡ checkedOf s (length l)) where
-  found : AcceptedAs s (length l) d
-  found = checked-accepted s (length l) d (sym e)
-
-  pub room : d .w * d .h ≤ length l
-  room = rw (found .header) (headed s (length l) (list-headed s (length l) (found .records) (found .is)) .fits)
+  abbrev records : List Record
+  records = found s (length l) d e .records
 
   pub lent : d .w * d .h ≡ length (take (d .w * d .h) l)
-  lent = let fits = room in simp length-take (omega arith)
+  lent = let fits = room s (length l) d e in simp length-take (omega arith)
 
-  pub list-drawable : Drawable s (d .w) (d .h) (length (take (d .w * d .h) l))
-  list-drawable =
-      subst (λ (n : ℕ). Drawable s (d .w) (d .h) n) lent
-      (subst (λ (q : Header). Drawable s (q .w) (q .h) (q .w * q .h)) (sym (found .header))
-      (drawable s (length l) (found .records) (found .is) (headerAt s .w * headerAt s .h) (omega arith)))
+  pub lent-drawable : Drawable s (d .w) (d .h) (length (take (d .w * d .h) l))
+  lent-drawable = let k = lent in record { walk = list-walkable s (length l) d e; room = omega arith }
 
   pub few : d .w * d .h < 2 ^ 64
   few =
-      let law = view-lawful (d .w) (d .h) _ (start (d .w) (d .h) .clip) (list-drawable .page) (list-drawable .room) (start-clip (d .w) (d .h)) in
+      let law = view-lawful (d .w) (d .h) _ (start (d .w) (d .h) .clip) (lent-drawable .walk .page) (lent-drawable .room) (start-clip (d .w) (d .h)) in
       omega (arith, mul-le-mul {n₁ = d .w} {m₁ = d .h} {n₂ = 1024} {m₂ = 1024} (law .w-most) (law .h-most))
 
-  drawings-are : listDrawings (d .w) (d .h) s ≡ drawings (d .w) (d .h) (found .records)
-  unfolding recordsIn
-  drawings-are =
-      ap (λ (x : Records). drawings (d .w) (d .h) (recordsIn x))
-      (subst (λ (q : Header). listRecords (q .w) (q .h) s ≡ accepted (found .records)) (sym (found .header))
-      (records-are s (length l) (found .records) (found .is)))
-
   -- the list on the part of the page that is lent left p, and touched t pixels
-  module _ (p : List ℕ) (t : ℕ) (painted-are : p ≡ painted (d .w) (d .background) (listDrawings (d .w) (d .h) s) (take (d .w * d .h) l))
+  module _ (p : List ℕ) (t : ℕ) (painted-are : p ≡ touchedPage (d .w) (d .background) (listDrawings (d .w) (d .h) s) (take (d .w * d .h) l))
       (count : t ≡ shapesCount (d .w) (d .h) (listDrawings (d .w) (d .h) s)) (lawful : AllLawful (listDrawings (d .w) (d .h) s)) (byte : d .background ≤ 255) where
-    count-is : t ≡ shapesCount (d .w) (d .h) (drawings (d .w) (d .h) (found .records))
-    count-is = count ∙ ap (shapesCount (d .w) (d .h)) drawings-are
+    count-is : t ≡ shapesCount (d .w) (d .h) (drawings (d .w) (d .h) records)
+    count-is = count ∙ ap (shapesCount (d .w) (d .h)) (drawings-are s (length l) d e)
 
-    page-is : p ++ drop (d .w * d .h) l ≡ drawnPage (d .w) (d .h) (d .background) (drawings (d .w) (d .h) (found .records)) l
+    page-is : p ++ drop (d .w * d .h) l ≡ drawnPage (d .w) (d .h) (d .background) (drawings (d .w) (d .h) records) l
     page-is =
-        page-whole (d .w) (d .h) (d .background) (drawings (d .w) (d .h) (found .records)) l p room
-        (painted-are ∙ ap (λ (ds : List Drawing). painted (d .w) (d .background) ds (take (d .w * d .h) l)) drawings-are)
+        page-whole (d .w) (d .h) (d .background) (drawings (d .w) (d .h) records) l p (room s (length l) d e)
+        (painted-are ∙ ap (λ (ds : List Drawing). touchedPage (d .w) (d .background) ds (take (d .w * d .h) l)) (drawings-are s (length l) d e))
 
-    records-claim : Claimed d (accepted (found .records)) l (Drawn (d .w) (d .h) t) (p ++ drop (d .w * d .h) l)
-    unfolding answerOf answerByPixels pageOf Bounded
+    records-claim : Claimed d (accepted records) l (Drawn (d .w) (d .h) t) (p ++ drop (d .w * d .h) l)
+    unfolding listAnswer answerByPixels listPage Bounded
     records-claim =
-        (ap (Drawn (d .w) (d .h)) count-is, (page-is, (bounded, ap (Drawn (d .w) (d .h)) (count-is ∙ counts-same (d .w) (d .h) (drawings (d .w) (d .h) (found .records))))))
+        (ap (Drawn (d .w) (d .h)) count-is, (page-is, (bounded, ap (Drawn (d .w) (d .h)) (count-is ∙ counts-same (d .w) (d .h) (drawings (d .w) (d .h) records)))))
       where
         bounded : (x y : ℕ) → x < d .w → y < d .h
-            → Near (getD (p ++ drop (d .w * d .h) l) (y * d .w + x) 0) (d .background) (touchesAt (drawings (d .w) (d .h) (found .records)) x y)
+            → ByteBounded (getD (p ++ drop (d .w * d .h) l) (y * d .w + x) 0) (d .background) (touchesAt (drawings (d .w) (d .h) records) x y)
         bounded x y i j =
-            subst (λ (m : List ℕ). Near (getD m (y * d .w + x) 0) (d .background) (touchesAt (drawings (d .w) (d .h) (found .records)) x y)) (sym page-is)
-            (all-near (d .w) (d .h) (d .background) (drawings (d .w) (d .h) (found .records)) l room byte (subst AllLawful drawings-are lawful) x y i j)
+            subst (λ (m : List ℕ). ByteBounded (getD m (y * d .w + x) 0) (d .background) (touchesAt (drawings (d .w) (d .h) records) x y)) (sym page-is)
+            (all-near (d .w) (d .h) (d .background) (drawings (d .w) (d .h) records) l (room s (length l) d e) byte (subst AllLawful (drawings-are s (length l) d e) lawful) x y i j)
 
     pub accepted-claim : Claimed (headerAt s) (recordsOf s (length l)) l (Drawn (d .w) (d .h) t) (p ++ drop (d .w * d .h) l)
     accepted-claim =
-        subst (λ (q : Header). Claimed q (recordsOf s (length l)) l (Drawn (d .w) (d .h) t) (p ++ drop (d .w * d .h) l)) (found .header)
-        (subst (λ (x : Records). Claimed d x l (Drawn (d .w) (d .h) t) (p ++ drop (d .w * d .h) l)) (sym (found .is)) records-claim)
+        subst (λ (q : Header). Claimed q (recordsOf s (length l)) l (Drawn (d .w) (d .h) t) (p ++ drop (d .w * d .h) l)) (found s (length l) d e .header)
+        (subst (λ (x : Records). Claimed d x l (Drawn (d .w) (d .h) t) (p ++ drop (d .w * d .h) l)) (sym (found s (length l) d e .is)) records-claim)

@@ -10,11 +10,11 @@ use Rattle.page.specs.Blend.{blend}
 use Rattle.page.specs.Page.{over}
 use Rattle.page.proofs.Over.{over-ext, over-over, over-same, length-over}
 use Rattle.bound.specs.Exact.{Touch, after, byteAfter}
-use Rattle.draw.specs.Touch.{touched, pageAfter, touchCount}
-use Rattle.draw.specs.Touch as shape
-use Rattle.drawing.specs.Drawing.{Drawing, touchOf, touchesAt}
+use Rattle.draw.specs.Touch.{touched, shapeByte, pageAfter, touchCount}
+use Rattle.lists.specs.Drawing.{Drawing}
+use Rattle.drawing.specs.Touches.{touchOf, touchesAt}
 use Rattle.drawing.specs.Page.{pixelsCount, shapesCount}
-use Rattle.drawing.specs.Walk.{shapesPage, painted}
+use Rattle.drawing.specs.inner.Walk.{shapesPage, touchedPage}
 
 -- ---- some shapes, then others
 
@@ -32,8 +32,8 @@ count-then w h (d ∷ ds) es = omega (arith, count-then w h ds es)
 
 -- the byte after the first of some drawings, and then after the rest
 byte-first : (d : Drawing) (ds : List Drawing) (x y u : ℕ)
-    → byteAfter (shape.byteAfter (d .settings .clip) (d .settings .level) (d .shape) x y u) (touchesAt ds x y) ≡ byteAfter u (touchesAt (d ∷ ds) x y)
-unfolding shape.byteAfter touchesAt byteAfter after
+    → byteAfter (shapeByte (d .settings .clip) (d .settings .level) (d .shape) x y u) (touchesAt ds x y) ≡ byteAfter u (touchesAt (d ∷ ds) x y)
+unfolding shapeByte touchesAt byteAfter after
 byte-first d ds x y u = go (touched (d .settings .clip) (d .shape) x y)
   where
     t : Touch
@@ -56,8 +56,8 @@ page-bytes w (d ∷ ds) l =
     ∙ over-ext _ _ l (λ k _. byte-first d ds (k % w) (k / w) (getD l k 0))
 
 -- a page of one level b, drawn on
-pub page-painted : (w b : ℕ) (ds : List Drawing) (l : List ℕ) → shapesPage w ds (over (λ _ _. b) l) ≡ painted w b ds l
-unfolding painted
+pub page-painted : (w b : ℕ) (ds : List Drawing) (l : List ℕ) → shapesPage w ds (over (λ _ _. b) l) ≡ touchedPage w b ds l
+unfolding touchedPage
 page-painted w b ds l = page-bytes w ds (over (λ _ _. b) l) ∙ over-over _ _ l
 
 -- ---- the count

@@ -6,15 +6,16 @@ use Rattle.numbers.specs.Fraction.{Within}
 use Rattle.lists.specs.List.{Records, accepted, refused}
 use Rattle.lists.specs.declared.format.Header.{Header}
 use Rattle.bound.specs.Exact.{Touch, whole, exactAfter, boundOf}
-use Rattle.drawing.specs.Drawing.{drawings, touchesAt}
+use Rattle.lists.specs.Drawing.{drawings}
+use Rattle.drawing.specs.Touches.{touchesAt}
 use Rattle.drawing.specs.Page.{drawnPage, pixelsCount, shapesCount}
 use Rattle.drawing.specs.declared.Answer.{Answer}
 use Rattle.drawing.specs.declared.Answer.the-variants.{Drawn, Refused}
 
 -- W, H and the touched count: the sum, over the shapes, of the pixels that each touches; or the refusal and its place
-unfoldable pub answerOf : Header → Records → Answer
-answerOf d (accepted rs) = Drawn (d .w) (d .h) (shapesCount (d .w) (d .h) (drawings (d .w) (d .h) rs))
-answerOf d (refused f place) = Refused f place
+unfoldable pub listAnswer : Header → Records → Answer
+listAnswer d (accepted rs) = Drawn (d .w) (d .h) (shapesCount (d .w) (d .h) (drawings (d .w) (d .h) rs))
+listAnswer d (refused f place) = Refused f place
 
 -- the same answer with the count as the sum, over all pixels, of the shapes that touch each
 unfoldable pub answerByPixels : Header → Records → Answer
@@ -22,12 +23,12 @@ answerByPixels d (accepted rs) = Drawn (d .w) (d .h) (pixelsCount (d .w) (d .h) 
 answerByPixels d (refused f place) = Refused f place
 
 -- the page l after the list; after a refusal as it was
-unfoldable pub pageOf : Header → Records → List ℕ → List ℕ
-pageOf d (accepted rs) l = drawnPage (d .w) (d .h) (d .background) (drawings (d .w) (d .h) rs) l
-pageOf d (refused f place) l = l
+unfoldable pub listPage : Header → Records → List ℕ → List ℕ
+listPage d (accepted rs) l = drawnPage (d .w) (d .h) (d .background) (drawings (d .w) (d .h) rs) l
+listPage d (refused f place) l = l
 
 -- a byte u that some touches leave of the background b is within their bound of the exact blend
-pub record Near (u b : ℕ) (ts : List Touch) : Type 0 where
+pub record ByteBounded (u b : ℕ) (ts : List Touch) : Type 0 where
   pub exact-pos : 0 < exactAfter (whole b) ts .den
   pub bound-pos : 0 < boundOf ts .den
   pub within : Within (whole u) (exactAfter (whole b) ts) (boundOf ts)
@@ -35,5 +36,5 @@ pub record Near (u b : ℕ) (ts : List Touch) : Type 0 where
 -- every pixel of the page m is
 unfoldable pub Bounded : Header → Records → List ℕ → Type 0
 Bounded d (accepted rs) m =
-    (x y : ℕ) → x < d .w → y < d .h → Near (getD m (y * d .w + x) 0) (d .background) (touchesAt (drawings (d .w) (d .h) rs) x y)
+    (x y : ℕ) → x < d .w → y < d .h → ByteBounded (getD m (y * d .w + x) 0) (d .background) (touchesAt (drawings (d .w) (d .h) rs) x y)
 Bounded d (refused f place) m = Unit {0}

@@ -1,5 +1,5 @@
 -- A whole drawing list on a lent page.
-pub mod Drawing
+pub mod Touches
 pub mod Page
 pub mod Claim
-pub mod Walk
+pub mod inner

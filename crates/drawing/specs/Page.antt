@@ -8,7 +8,8 @@ use Rattle.numbers.specs.Sum.{sumTo}
 use Rattle.page.specs.Page.{over}
 use Rattle.bound.specs.Exact.{byteAfter}
 use Rattle.draw.specs.Touch.{touchCount}
-use Rattle.drawing.specs.Drawing.{Drawing, touchesAt}
+use Rattle.lists.specs.Drawing.{Drawing}
+use Rattle.drawing.specs.Touches.{touchesAt}
 
 -- byte y·w + x is what the touches of (x, y) leave of the background b; each byte past w·h is kept
 unfoldable pub drawnPage : ℕ → ℕ → ℕ → List Drawing → List ℕ → List ℕ

@@ -3,76 +3,29 @@ use lists::check::Checked;
 use lists::format::HEADER_SIZE;
 use shapes::Clip;
 use shapes::Record;
-use shapes::Setting;
-use shapes::Shape;
 ghost use mathlib.Core.Path.{_≡_};
 ghost use Prim.Native.Nat.{_*_, _≤_};
 ghost use lib.ListN.{length};
-ghost use Rattle.shapes.specs.Limits.{recordFault};
-ghost use Rattle.page.specs.Page.{Lawful};
+ghost use Rattle.shapes.specs.Limits.{recordRefusal};
+ghost use Rattle.page.specs.inner.Paint.{Lawful};
 ghost use Rattle.lists.specs.Format.{headerAt};
 ghost use Rattle.lists.specs.List.{recordsOf};
-ghost use Rattle.draw.specs.Draw.{viewOf};
-ghost use Rattle.drawing.specs.Drawing.{start, inForce, drawingOf};
+ghost use Rattle.lists.specs.inner.Walk.{listDrawings};
+ghost use Rattle.draw.specs.inner.View.{viewOf};
+ghost use Rattle.lists.specs.Drawing.{drawingOf};
 ghost use Rattle.drawing.specs.Page.{shapesCount};
-ghost use Rattle.drawing.specs.Walk.{settingsOf, shapesPage, listDrawings, Drawable, AllLawful, painted};
-ghost use Rattle.drawing.specs.Claim.{answerOf, answerByPixels, pageOf, Bounded};
-
-// The clip and the level in force.
-pub struct Settings {
-    pub clip: Clip,
-    pub level: u8,
-}
+ghost use Rattle.drawing.specs.inner.Walk.{settingsOf, shapesPage, Drawable, AllLawful, touchedPage};
+ghost use Rattle.drawing.specs.Claim.{listAnswer, answerByPixels, listPage, Bounded};
 
 // What drawing a list answers: W, H and how many pixels were touched, or the number of the refusal and its place.
 pub enum Answer {
     Drawn { w: u16, h: u16, touched: u64 },
-    Refused { number: u8, place: usize },
-}
-
-// The settings before the first record.
-fn first_settings(w: u16, h: u16) -> Settings
-    ensures { λ r. ⌜ r ≡ start w h ⌝ }
-{
-    Settings {
-        clip: Clip {
-            x0: 0,
-            y0: 0,
-            x1: w,
-            y1: h,
-        },
-        level: 255,
-    }
-}
-
-// The settings after one more.
-fn settings_with(settings: Settings, setting: Setting) -> Settings
-    ensures { λ r. ⌜ r ≡ inForce settings (Record.Setting setting) ⌝ }
-{
-    let old = settings.clip;
-    match setting {
-        Setting::Clip(clip) => Settings {
-            clip,
-            level: settings.level,
-        },
-        Setting::Level(level) => Settings { clip: old, level },
-    }
-}
-
-// The settings after a record.
-fn settings_after(settings: Settings, rec: Record) -> Settings
-    ensures { λ r. ⌜ r ≡ inForce settings rec ⌝ }
-{
-    match rec {
-        Record::Setting(setting) => settings_with(settings, setting),
-        Record::Shape(_) => settings,
-        Record::End => settings,
-    }
+    Refused { refusal: u8, place: usize },
 }
 
 // Draws a record, if it is a shape; hands back how many pixels it touched.
 fn draw_record(page: &mut [u8], w: u16, h: u16, clip: Clip, level: u8, rec: Record) -> u64
-    requires { ⌜ Lawful (viewOf w h clip) (length (now page)) × (recordFault w h rec ≡ 0) ⌝ }
+    requires { ⌜ Lawful (viewOf w h clip) (length (now page)) × (recordRefusal w h rec ≡ 0) ⌝ }
     ensures { λ t. ⌜ (now (page .exit) ≡ shapesPage w (drawingOf (settingsOf clip level) rec) (now (page .entry))) × (t ≡ shapesCount w h (drawingOf (settingsOf clip level) rec)) × (t ≤ 1048576) × (level ≤ 255) ⌝ }
 {
     match rec {
@@ -87,7 +40,7 @@ fn draw_records(page: &mut [u8], list: &[u8], w: u16, h: u16) -> u64
     requires { ⌜ Drawable (now list) w h (length (now page)) ⌝ }
     ensures { λ t. ⌜ (now (page .exit) ≡ shapesPage w (listDrawings w h (now (list .entry))) (now (page .entry))) × (t ≡ shapesCount w h (listDrawings w h (now (list .entry)))) × AllLawful (listDrawings w h (now (list .entry))) ⌝ }
 {
-    let mut settings = first_settings(w, h);
+    let mut settings = lists::settings::first_settings(w, h);
     let mut touched: u64 = 0;
     let mut place = HEADER_SIZE;
     loop {
@@ -98,7 +51,7 @@ fn draw_records(page: &mut [u8], list: &[u8], w: u16, h: u16) -> u64
         let rec = lists::format::decode(&list[place..]);
         let clip = settings.clip;
         touched += draw_record(page, w, h, clip, settings.level, rec);
-        settings = settings_after(settings, rec);
+        settings = lists::settings::settings_after(settings, rec);
         place += lists::format::kind_size(kind);
     }
 }
@@ -106,7 +59,7 @@ fn draw_records(page: &mut [u8], list: &[u8], w: u16, h: u16) -> u64
 // Fills a page with the background and draws a list on it; hands back how many pixels were touched.
 fn paint(page: &mut [u8], list: &[u8], w: u16, h: u16, background: u8) -> u64
     requires { ⌜ Drawable (now list) w h (length (now page)) ⌝ }
-    ensures { λ t. ⌜ (now (page .exit) ≡ painted w background (listDrawings w h (now (list .entry))) (now (page .entry))) × (t ≡ shapesCount w h (listDrawings w h (now (list .entry)))) × AllLawful (listDrawings w h (now (list .entry))) × (background ≤ 255) ⌝ }
+    ensures { λ t. ⌜ (now (page .exit) ≡ touchedPage w background (listDrawings w h (now (list .entry))) (now (page .entry))) × (t ≡ shapesCount w h (listDrawings w h (now (list .entry)))) × AllLawful (listDrawings w h (now (list .entry))) × (background ≤ 255) ⌝ }
 {
     page::fill(page, background);
     draw_records(page, list, w, h)
@@ -114,14 +67,14 @@ fn paint(page: &mut [u8], list: &[u8], w: u16, h: u16, background: u8) -> u64
 
 // Draws a list on a page, or refuses it and leaves the page as it was. The list is checked whole before a byte of the page is written.
 pub fn draw_list(page: &mut [u8], list: &[u8]) -> Answer
-    ensures { λ r. ⌜ r ≡ answerOf (headerAt (now (list .entry))) (recordsOf (now (list .entry)) (length (now (page .entry)))) ⌝ }
-    ensures { λ r. ⌜ now (page .exit) ≡ pageOf (headerAt (now (list .entry))) (recordsOf (now (list .entry)) (length (now (page .entry)))) (now (page .entry)) ⌝ }
+    ensures { λ r. ⌜ r ≡ listAnswer (headerAt (now (list .entry))) (recordsOf (now (list .entry)) (length (now (page .entry)))) ⌝ }
+    ensures { λ r. ⌜ now (page .exit) ≡ listPage (headerAt (now (list .entry))) (recordsOf (now (list .entry)) (length (now (page .entry)))) (now (page .entry)) ⌝ }
     ensures { λ r. ⌜ Bounded (headerAt (now (list .entry))) (recordsOf (now (list .entry)) (length (now (page .entry)))) (now (page .exit)) ⌝ }
     ensures { λ r. ⌜ r ≡ answerByPixels (headerAt (now (list .entry))) (recordsOf (now (list .entry)) (length (now (page .entry)))) ⌝ }
 {
     let checked = lists::check::check_list(list, page.len());
     match checked {
-        Checked::Refused { number, place } => Answer::Refused { number, place },
+        Checked::Refused { refusal, place } => Answer::Refused { refusal, place },
         Checked::Accepted(header) => {
             let n = (header.w as usize) * (header.h as usize);
             let touched = paint(&mut page[..n], list, header.w, header.h, header.background);

@@ -13,12 +13,12 @@ use Rattle.greystroke.specs.declared.shape.DrawAnswer.{DrawAnswer}
 use Rattle.greystroke.specs.declared.query.CoverageAnswer.{CoverageAnswer}
 
 abbrev pub answered : Answer → CoverageAnswer
-answered (Covered share) = record { refusal = 0; n = share .n; d = share .d }
-answered (Refused fault) = record { refusal = fault; n = 0; d = 0 }
+answered (Covered ratio) = record { refusal = 0; n = ratio .n; d = ratio .d }
+answered (Refused refusal) = record { refusal = refusal; n = 0; d = 0 }
 
 abbrev pub drawn : Outcome → DrawAnswer
 drawn (Touched count) = record { refusal = 0; touched = count }
-drawn (DrawRefused fault) = record { refusal = fault; touched = 0 }
+drawn (DrawRefused refusal) = record { refusal = refusal; touched = 0 }
 
 -- a clip and a shape by the numbers that C hands over
 abbrev pub clipOf : ℕ → ℕ → ℕ → ℕ → Clip

@@ -32,14 +32,14 @@ recordAnswer (shape (ring g)) = numbered (shape (ring g)) (g .x) (g .y) (pos (g 
 
 abbrev pub readAnswer : Reading → ReadAnswer
 readAnswer (Found r) = recordAnswer r
-readAnswer (Refused fault) = record { refusal = fault; size = 0; kind = 0; a = pos 0; b = pos 0; c = pos 0; d = pos 0 }
+readAnswer (Refused refusal) = record { refusal = refusal; size = 0; kind = 0; a = pos 0; b = pos 0; c = pos 0; d = pos 0 }
 
 abbrev pub checkAnswer : Checked → CheckAnswer
 checkAnswer (Accepted d) = record { refusal = 0; place = 0; w = d .w; h = d .h; background = d .background }
-checkAnswer (CheckRefused fault place) = record { refusal = fault; place = place; w = 0; h = 0; background = 0 }
+checkAnswer (CheckRefused refusal place) = record { refusal = refusal; place = place; w = 0; h = 0; background = 0 }
 
 abbrev pub writeAnswer : Written → WriteAnswer
-writeAnswer a = record { refusal = a .code; place = a .place; w = a .w; h = a .h }
+writeAnswer a = record { refusal = a .refusal; place = a .place; w = a .w; h = a .h }
 
 -- a header by its three numbers
 abbrev pub headerOf : ℕ → ℕ → ℕ → Header

@@ -155,8 +155,8 @@ fn read_answer(reading: Reading) -> ReadAnswer
 {
     match reading {
         Reading::Found(rec) => record_answer(rec),
-        Reading::Refused(fault) => ReadAnswer {
-            refusal: fault as u64,
+        Reading::Refused(refusal) => ReadAnswer {
+            refusal: refusal as u64,
             size: 0,
             kind: 0,
             a: 0,
@@ -179,8 +179,8 @@ fn check_answer(checked: Checked) -> CheckAnswer
             h: header.h as u64,
             background: header.background as u64,
         },
-        Checked::Refused { number, place } => CheckAnswer {
-            refusal: number as u64,
+        Checked::Refused { refusal, place } => CheckAnswer {
+            refusal: refusal as u64,
             place,
             w: 0,
             h: 0,

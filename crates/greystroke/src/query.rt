@@ -20,13 +20,13 @@ fn coverage_answer(answer: coverage::Answer) -> CoverageAnswer
     ensures { λ r. ⌜ r ≡ answered answer ⌝ }
 {
     match answer {
-        coverage::Answer::Covered(share) => CoverageAnswer {
+        coverage::Answer::Covered(ratio) => CoverageAnswer {
             refusal: 0,
-            n: share.n,
-            d: share.d,
+            n: ratio.n,
+            d: ratio.d,
         },
-        coverage::Answer::Refused(fault) => CoverageAnswer {
-            refusal: fault as u64,
+        coverage::Answer::Refused(refusal) => CoverageAnswer {
+            refusal: refusal as u64,
             n: 0,
             d: 0,
         },

@@ -6,7 +6,7 @@ use shapes::Ring;
 use shapes::Shape;
 ghost use mathlib.Core.Path.{_≡_};
 ghost use lib.ListN.{length};
-ghost use Rattle.draw.specs.Draw.{outcome, pageOf};
+ghost use Rattle.draw.specs.Draw.{shapeOutcome, shapePage};
 ghost use Rattle.greystroke.specs.Answers.{clipOf, lineOf, discOf, ringOf, drawn};
 
 // How many pixels were touched where refusal is 0.
@@ -31,8 +31,8 @@ fn draw_answer(outcome: draw::Outcome) -> DrawAnswer
             refusal: 0,
             touched,
         },
-        draw::Outcome::Refused(fault) => DrawAnswer {
-            refusal: fault as u64,
+        draw::Outcome::Refused(refusal) => DrawAnswer {
+            refusal: refusal as u64,
             touched: 0,
         },
     }
@@ -40,8 +40,8 @@ fn draw_answer(outcome: draw::Outcome) -> DrawAnswer
 
 // Every shape is drawn so.
 fn draw(page: &mut [u8], w: u16, h: u16, clip: Clip, level: u8, shape: Shape) -> DrawAnswer
-    ensures { λ r. ⌜ r ≡ drawn (outcome w h (length (now (page .entry))) clip shape) ⌝ }
-    ensures { λ r. ⌜ now (page .exit) ≡ pageOf w h clip level shape (now (page .entry)) ⌝ }
+    ensures { λ r. ⌜ r ≡ drawn (shapeOutcome w h (length (now (page .entry))) clip shape) ⌝ }
+    ensures { λ r. ⌜ now (page .exit) ≡ shapePage w h clip level shape (now (page .entry)) ⌝ }
 {
     draw_answer(draw::draw_shape(page, w, h, clip, level, shape))
 }
@@ -63,8 +63,8 @@ pub extern "C" fn greystroke_draw_line(
     x1: i16,
     y1: i16,
 ) -> DrawAnswer
-    ensures { λ r. ⌜ r ≡ drawn (outcome w h (length (now (page .entry))) (clipOf left top right bottom) (lineOf exact x0 y0 x1 y1)) ⌝ }
-    ensures { λ r. ⌜ now (page .exit) ≡ pageOf w h (clipOf left top right bottom) level (lineOf exact x0 y0 x1 y1) (now (page .entry)) ⌝ }
+    ensures { λ r. ⌜ r ≡ drawn (shapeOutcome w h (length (now (page .entry))) (clipOf left top right bottom) (lineOf exact x0 y0 x1 y1)) ⌝ }
+    ensures { λ r. ⌜ now (page .exit) ≡ shapePage w h (clipOf left top right bottom) level (lineOf exact x0 y0 x1 y1) (now (page .entry)) ⌝ }
 {
     let clip = clip_of(left, top, right, bottom);
     let line = Line {
@@ -92,8 +92,8 @@ pub extern "C" fn greystroke_draw_disc(
     cy: i16,
     radius: u16,
 ) -> DrawAnswer
-    ensures { λ r. ⌜ r ≡ drawn (outcome w h (length (now (page .entry))) (clipOf left top right bottom) (discOf cx cy radius)) ⌝ }
-    ensures { λ r. ⌜ now (page .exit) ≡ pageOf w h (clipOf left top right bottom) level (discOf cx cy radius) (now (page .entry)) ⌝ }
+    ensures { λ r. ⌜ r ≡ drawn (shapeOutcome w h (length (now (page .entry))) (clipOf left top right bottom) (discOf cx cy radius)) ⌝ }
+    ensures { λ r. ⌜ now (page .exit) ≡ shapePage w h (clipOf left top right bottom) level (discOf cx cy radius) (now (page .entry)) ⌝ }
 {
     let clip = clip_of(left, top, right, bottom);
     let disc = Disc {
@@ -120,8 +120,8 @@ pub extern "C" fn greystroke_draw_ring(
     radius: u16,
     width: u16,
 ) -> DrawAnswer
-    ensures { λ r. ⌜ r ≡ drawn (outcome w h (length (now (page .entry))) (clipOf left top right bottom) (ringOf cx cy radius width)) ⌝ }
-    ensures { λ r. ⌜ now (page .exit) ≡ pageOf w h (clipOf left top right bottom) level (ringOf cx cy radius width) (now (page .entry)) ⌝ }
+    ensures { λ r. ⌜ r ≡ drawn (shapeOutcome w h (length (now (page .entry))) (clipOf left top right bottom) (ringOf cx cy radius width)) ⌝ }
+    ensures { λ r. ⌜ now (page .exit) ≡ shapePage w h (clipOf left top right bottom) level (ringOf cx cy radius width) (now (page .entry)) ⌝ }
 {
     let clip = clip_of(left, top, right, bottom);
     let ring = Ring {

@@ -4,8 +4,8 @@ ghost use mathlib.Core.Path.{_≡_};
 ghost use lib.ListN.{length};
 ghost use Rattle.lists.specs.Format.{headerAt};
 ghost use Rattle.lists.specs.List.{recordsOf};
-ghost use Rattle.drawing.specs.Claim.{answerOf, answerByPixels, pageOf, Bounded};
-ghost use Rattle.greystroke.specs.Whole.{listed};
+ghost use Rattle.drawing.specs.Claim.{listAnswer, answerByPixels, listPage, Bounded};
+ghost use Rattle.greystroke.specs.Whole.{listAnswered};
 
 // W, H and how many pixels were touched where refusal is 0; else the place of the refusal.
 #[repr(C)]
@@ -19,7 +19,7 @@ pub struct ListAnswer {
 
 // The library's answer in the form that C takes.
 fn list_answer(answer: Answer) -> ListAnswer
-    ensures { λ r. ⌜ r ≡ listed answer ⌝ }
+    ensures { λ r. ⌜ r ≡ listAnswered answer ⌝ }
 {
     match answer {
         Answer::Drawn { w, h, touched } => ListAnswer {
@@ -29,8 +29,8 @@ fn list_answer(answer: Answer) -> ListAnswer
             h: h as u64,
             touched,
         },
-        Answer::Refused { number, place } => ListAnswer {
-            refusal: number as u64,
+        Answer::Refused { refusal, place } => ListAnswer {
+            refusal: refusal as u64,
             place,
             w: 0,
             h: 0,
@@ -42,10 +42,10 @@ fn list_answer(answer: Answer) -> ListAnswer
 // Draws a list.
 #[no_mangle]
 pub extern "C" fn greystroke_draw_list(page: &mut [u8], list: &[u8]) -> ListAnswer
-    ensures { λ r. ⌜ r ≡ listed (answerOf (headerAt (now (list .entry))) (recordsOf (now (list .entry)) (length (now (page .entry))))) ⌝ }
-    ensures { λ r. ⌜ now (page .exit) ≡ pageOf (headerAt (now (list .entry))) (recordsOf (now (list .entry)) (length (now (page .entry)))) (now (page .entry)) ⌝ }
+    ensures { λ r. ⌜ r ≡ listAnswered (listAnswer (headerAt (now (list .entry))) (recordsOf (now (list .entry)) (length (now (page .entry))))) ⌝ }
+    ensures { λ r. ⌜ now (page .exit) ≡ listPage (headerAt (now (list .entry))) (recordsOf (now (list .entry)) (length (now (page .entry)))) (now (page .entry)) ⌝ }
     ensures { λ r. ⌜ Bounded (headerAt (now (list .entry))) (recordsOf (now (list .entry)) (length (now (page .entry)))) (now (page .exit)) ⌝ }
-    ensures { λ r. ⌜ r ≡ listed (answerByPixels (headerAt (now (list .entry))) (recordsOf (now (list .entry)) (length (now (page .entry))))) ⌝ }
+    ensures { λ r. ⌜ r ≡ listAnswered (answerByPixels (headerAt (now (list .entry))) (recordsOf (now (list .entry)) (length (now (page .entry))))) ⌝ }
 {
     list_answer(drawing::draw_list(page, list))
 }

@@ -27,7 +27,7 @@ fn write_answer(written: Written) -> WriteAnswer
     ensures { λ r. ⌜ r ≡ writeAnswer written ⌝ }
 {
     WriteAnswer {
-        refusal: written.code as u64,
+        refusal: written.refusal as u64,
         place: written.place,
         w: written.w as u64,
         h: written.h as u64,

@@ -12,11 +12,11 @@ use Rattle.numbers.proofs.Order.{lt-or-le}
 use Rattle.coverage.specs.Line.{rowOf, restOf}
 use Rattle.coverage.specs.declared.line.Frame.{Frame}
 use Rattle.coverage.proofs.Closed.{column-is, rest-lt, row-le}
-use Rattle.coverage.specs.Frame.{Framed}
+use Rattle.coverage.specs.inner.Frame.{Framed}
 use Rattle.shapes.specs.declared.Line.{Line}
-use Rattle.page.specs.Page.{Lawful}
+use Rattle.page.specs.inner.Paint.{Lawful}
 use Rattle.page.specs.declared.View.{View}
-use Rattle.lines.specs.Layout.{alongFrom, alongEnd, byteAt, Laid, raised, lowered, Reachable, At, Advanced}
+use Rattle.lines.specs.inner.Layout.{alongFrom, alongEnd, byteAt, Laid, raised, lowered, Reachable, At, Advanced}
 use Rattle.lines.specs.declared.layout.Layout.{Layout}
 use Rattle.lines.proofs.Column.{raised-byte, lowered-byte}
 use Rattle.lines.proofs.RowPixel.{byte-on-page}

@@ -12,16 +12,16 @@ use borrow.Author.Tests.{eq-eqb, ne-eqb, le-leb, lt-leb}
 use Rattle.numbers.proofs.Order.{lt-or-le, eq-or-ne}
 use Rattle.shapes.specs.declared.Line.{Line}
 use Rattle.coverage.specs.Line.{rowOf, restOf}
-use Rattle.coverage.specs.Rows.{exactRows, approxRows, atRow}
-use Rattle.coverage.specs.Frame.{Framed}
+use Rattle.coverage.specs.inner.Rows.{exactRows, approxRows, atRow}
+use Rattle.coverage.specs.inner.Frame.{Framed}
 use Rattle.coverage.specs.declared.line.Frame.{Frame}
 use Rattle.coverage.specs.declared.line.Rows.{Rows}
 use Rattle.coverage.proofs.Closed.{row-le, row-below, row-lower, row-middle, row-upper, row-above}
-use Rattle.page.specs.Page.{Lawful, Drawn}
+use Rattle.page.specs.inner.Paint.{Lawful, Drawn}
 use Rattle.page.specs.declared.View.{View}
 use Rattle.page.proofs.Clip.{Either}
 use Rattle.page.proofs.Paint.{drawn-join, drawn-length}
-use Rattle.lines.specs.Layout.{lineOn, alongFrom, alongEnd, strip, rowAt, byteAt, Laid, shown, spotted, counted, columned, columnCount, raised, lowered}
+use Rattle.lines.specs.inner.Layout.{lineOn, alongFrom, alongEnd, strip, rowAt, byteAt, Laid, shown, spotted, counted, columned, columnCount, raised, lowered}
 use Rattle.lines.specs.declared.layout.Layout.{Layout}
 use Rattle.lines.proofs.Strip.{InColumn, inside, outside, in-column, line-inside}
 use Rattle.lines.proofs.RowPixel.{Pixel, only, spot-drawn}

@@ -8,17 +8,17 @@ use native.Mathlib.Omega.{arith}
 use lib.ListN.{length}
 use Rattle.shapes.specs.declared.Line.{Line}
 use Rattle.coverage.specs.Line.{exactWhole, approxWhole, restOf}
-use Rattle.coverage.specs.Rows.{cutExcess, rowsOf, wholeOf}
-use Rattle.coverage.specs.Frame.{Framed}
+use Rattle.coverage.specs.inner.Rows.{cutExcess, rowsOf, wholeOf}
+use Rattle.coverage.specs.inner.Frame.{Framed}
 use Rattle.coverage.specs.declared.line.Frame.{Frame}
 use Rattle.coverage.specs.declared.line.Rows.{Rows}
 use Rattle.coverage.proofs.Column.{Filled, exact-filled, approx-filled}
 use Rattle.coverage.proofs.Pixel.{whole-drawn}
-use Rattle.page.specs.Blend.{inkOf, Coverage}
-use Rattle.page.specs.Page.{Lawful, Drawn}
+use Rattle.page.specs.inner.Ink.{inkOf, Coverage}
+use Rattle.page.specs.inner.Paint.{Lawful, Drawn}
 use Rattle.page.specs.declared.View.{View}
 use Rattle.page.proofs.Paint.{drawn-none}
-use Rattle.lines.specs.Layout.{lineOn, lineInk, alongFrom, alongEnd, strip, Laid, columned, columnCount, At}
+use Rattle.lines.specs.inner.Layout.{lineOn, lineInk, alongFrom, alongEnd, strip, Laid, columned, columnCount, At}
 use Rattle.lines.specs.declared.layout.Layout.{Layout}
 use Rattle.lines.proofs.Strip.{strip-none}
 use Rattle.lines.proofs.Column.{column-drawn}

@@ -5,10 +5,11 @@ use mathlib.Core.List.{List}
 use Prim.Native.Nat.{ℕ, _<_}
 use lib.ListN.{getD, set, length, length-set}
 use lib.Seq.{set-getD}
-use Rattle.page.specs.Blend.{blend, inkOf}
-use Rattle.page.specs.Page.{dot}
+use Rattle.page.specs.Blend.{blend}
+use Rattle.page.specs.inner.Ink.{inkOf}
+use Rattle.page.specs.inner.Paint.{dot}
 use Rattle.page.proofs.Paint.{dot-none, dot-blend}
-use Rattle.lines.specs.Layout.{spotted}
+use Rattle.lines.specs.inner.Layout.{spotted}
 
 -- coverage 0 leaves it as it was
 pub spotted-none : (ink : ℕ → ℕ → ℕ) (n k : ℕ) (l : List ℕ) → n ≡ 0 → l ≡ spotted true ink n k l

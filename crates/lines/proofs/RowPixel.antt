@@ -10,11 +10,11 @@ use lib.ListN.{length}
 use borrow.Author.Tests.{eq-eqb, ne-eqb, le-leb, lt-ltb, leb-true, ltb-true}
 use Rattle.numbers.proofs.Order.{eq-or-ne}
 use Rattle.coverage.specs.declared.line.Frame.{Frame}
-use Rattle.page.specs.Page.{clipped, Lawful, Drawn}
+use Rattle.page.specs.inner.Paint.{clipped, Lawful, Drawn}
 use Rattle.page.specs.declared.View.{View}
 use Rattle.page.proofs.Clip.{Inside, Outside, in-or-out, clip-in, clip-out}
 use Rattle.page.proofs.Paint.{row-end, drawn-none, drawn-one}
-use Rattle.lines.specs.Layout.{alongFrom, alongEnd, strip, rowAt, byteAt, Laid, shown, spotted, counted}
+use Rattle.lines.specs.inner.Layout.{alongFrom, alongEnd, strip, rowAt, byteAt, Laid, shown, spotted, counted}
 use Rattle.lines.specs.declared.layout.Layout.{Layout}
 
 -- pixel (x, y) is that of column p and row g

@@ -9,15 +9,16 @@ use native.Mathlib.Omega.{arith}
 use lib.Dec.{leb}
 use lib.ListN.{length, getD, set}
 use borrow.Author.Tests.{le-leb, lt-ltb}
-use Rattle.coverage.specs.Rows.{rowsOf, cutExcess}
+use Rattle.coverage.specs.inner.Rows.{rowsOf, cutExcess}
 use Rattle.coverage.specs.declared.line.Frame.{Frame}
 use Rattle.coverage.specs.declared.line.Rows.{Rows}
 use Rattle.coverage.proofs.Closed.{rest-lt}
 use Rattle.coverage.proofs.Column.{Filled}
-use Rattle.page.specs.Blend.{inkOf, blend}
-use Rattle.page.specs.Page.{touch}
-use Rattle.lines.specs.Layout.{alongEnd, shown, spotted, raised, lowered, columned, columnCount, Reachable, At, Advanced}
-use Rattle.lines.specs.Stroke.{Ready, Standing, Drawable, Inner, Stepped}
+use Rattle.page.specs.inner.Ink.{inkOf}
+use Rattle.page.specs.Blend.{blend}
+use Rattle.page.specs.inner.Paint.{touch}
+use Rattle.lines.specs.inner.Layout.{alongEnd, shown, spotted, raised, lowered, columned, columnCount, Reachable, At, Advanced}
+use Rattle.lines.specs.inner.Stroke.{Prepared, Standing, Steppable, Inner, Stepped}
 use Rattle.lines.specs.declared.layout.Layout.{Layout}
 use Rattle.lines.specs.declared.step.Step.{Step}
 use Rattle.lines.specs.declared.step.Stroke.{Stroke}
@@ -25,8 +26,8 @@ use Rattle.lines.proofs.Advance.{advance, reachable, k-most}
 use Rattle.lines.proofs.Dots.{spotted-blend}
 use Rattle.lines.proofs.Columns.{Covers, rows-filled, rows-cover, one-column, layout-le, along-most}
 
-module _ {s : Stroke} {size : ℕ} {at : Step} (here : Drawable s at size) where
-  ready : Ready s size
+module _ {s : Stroke} {size : ℕ} {at : Step} (here : Steppable s at size) where
+  ready : Prepared s size
   ready = here .ready
 
   stand : Standing s at

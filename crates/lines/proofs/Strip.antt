@@ -5,21 +5,21 @@ use mathlib.Core.Logic.{_⊎_, inl, inr, ⊎-elim}
 use Prim.Native.Nat.{ℕ, _+_, _-_, _≤_, _<_, max, min}
 use native.Mathlib.Omega.{arith}
 use lib.IntN.{pos, subℕ}
-use Rattle.numbers.specs.Coordinate.{offsetOf}
+use Rattle.numbers.specs.inner.Offset.{offsetOf}
 use Rattle.numbers.proofs.Order.{lt-or-le}
 use Rattle.numbers.proofs.Integer.{sub-same}
 use Rattle.numbers.proofs.Coordinate.{InRange, in-range, pixel-in, pixel-offset}
 use Rattle.shapes.specs.declared.Line.{Line}
 use Rattle.coverage.specs.Line.{rowOf, restOf}
-use Rattle.coverage.specs.Rows.{exactRows, approxRows, atRow}
-use Rattle.coverage.specs.Frame.{Framed}
+use Rattle.coverage.specs.inner.Rows.{exactRows, approxRows, atRow}
+use Rattle.coverage.specs.inner.Frame.{Framed}
 use Rattle.coverage.specs.declared.line.Frame.{Frame}
 use Rattle.coverage.specs.declared.line.Rows.{Rows}
 use Rattle.coverage.proofs.Pixel.{drawn-left, drawn-right, drawn-inside, across-le}
-use Rattle.page.specs.Page.{clipped, inView, Lawful}
+use Rattle.page.specs.inner.Paint.{clipped, inView, Lawful}
 use Rattle.page.specs.declared.View.{View}
 use Rattle.page.proofs.Clip.{Inside, Outside, in-or-out, left-of, right-of, above, below, clip-in, clip-out, clip-shrink, clip-columns, clip-rows, Join}
-use Rattle.lines.specs.Layout.{lineOn, alongFrom, alongEnd, strip, rowAt}
+use Rattle.lines.specs.inner.Layout.{lineOn, alongFrom, alongEnd, strip, rowAt}
 
 -- ---- strips of any coverage
 module _ (c : View) (f : Frame) (n : ℕ → ℕ → ℕ) where

@@ -8,10 +8,10 @@ use native.Mathlib.Omega.{arith}
 use lib.Dec.{leb, ltb}
 use borrow.Author.Tests.{le-leb, lt-ltb, leb-true, ltb-true}
 use Rattle.numbers.proofs.Order.{lt-or-le}
-use Rattle.page.specs.Page.{Drawn}
+use Rattle.page.specs.inner.Paint.{Drawn}
 use Rattle.page.proofs.Paint.{drawn-join}
-use Rattle.lines.specs.Layout.{lineOn, lineInk, alongFrom, strip, At}
-use Rattle.lines.specs.Stroke.{Ready, Standing, Within, Extended}
+use Rattle.lines.specs.inner.Layout.{lineOn, lineInk, alongFrom, strip, At}
+use Rattle.lines.specs.inner.Stroke.{Prepared, Standing, EndInside, Extended}
 use Rattle.lines.specs.declared.step.Step.{Step}
 use Rattle.lines.specs.declared.step.Stroke.{Stroke}
 use Rattle.lines.proofs.Strip.{strip-join}
@@ -38,11 +38,11 @@ module _ {s : Stroke} where
         standing = b .standing;
       }
 
-  pub within-next : {e : ℕ} (p : ℕ) → Within s e → p < e → Within s (p + 1)
+  pub within-next : {e : ℕ} (p : ℕ) → EndInside s e → p < e → EndInside s (p + 1)
   within-next p w h = record { right = omega (arith, w .right); last = omega (arith, w .last) }
 
 -- a page has its highest row well above row 2, for rows are counted from 16,384
-pub high-least : (s : Stroke) (size : ℕ) → Ready s size → 2 ≤ s .layout .high
+pub high-least : (s : Stroke) (size : ℕ) → Prepared s size → 2 ≤ s .layout .high
 high-least s size r = rw (r .laid .high-is) (go (s .frame .falls) (s .frame .steep))
   where
     go : (t u : Bool) → 2 ≤ cond t (s .frame .y + 12288 - cond u (s .view .x0) (s .view .y0)) (cond u (s .view .x1) (s .view .y1) + 20480 - s .frame .y)
@@ -58,7 +58,7 @@ pub stops : (p e g top : ℕ) → (ltb p e && leb g top) ≡ false → p < e →
 stops p e g top h k = ⊎-elim (λ z. z) (λ z. absurd (let n : _≡_ {A = ℕ} 0 1 = cc (lt-ltb p e k, le-leb g top z) in omega arith)) (lt-or-le top g)
 
 -- a walk that began with no touches and ends at e, or above every row, has drawn the columns to e
-pub extended-whole : {s : Stroke} {size e : ℕ} {from to : Step} {l m : List ℕ} → Ready s size → Within s e → from .touched ≡ 0 → Extended s from to l m → to .p ≤ e
+pub extended-whole : {s : Stroke} {size e : ℕ} {from to : Step} {l m : List ℕ} → Prepared s size → EndInside s e → from .touched ≡ 0 → Extended s from to l m → to .p ≤ e
     → (to .p < e → 65535 < to .g)
     → Drawn (s .view .w) (s .view .h) (lineInk (s .line) (s .level)) (strip (s .view) (s .frame) (from .p) e (lineOn (s .line))) l m (to .touched)
 extended-whole {s} {size} {e} {from} {to} ready within zero x most past =

@@ -1,3 +1,2 @@
--- How a line lies on a page, and a walk along it.
-pub mod Layout
-pub mod Stroke
+-- Lines have no definition that an entry point cites: what a line leaves on a page is `coverage`'s and `page`'s.
+pub mod inner

@@ -4,7 +4,7 @@ use page::View;
 ghost use mathlib.Core.Bool.{cond};
 ghost use mathlib.Core.Path.{_≡_};
 ghost use Prim.Native.Nat.{_+_, _^_, _≤_, _<_};
-ghost use Rattle.lines.specs.Layout.{Laid, shown, raised, lowered};
+ghost use Rattle.lines.specs.inner.Layout.{Laid, shown, raised, lowered};
 
 // How a line's frame lies on a page: the bytes from one column to the next and from one row to the next, whether rows are mirrored,
 // the clip's rows, and what is added to a byte's index.

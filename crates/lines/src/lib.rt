@@ -11,12 +11,12 @@ ghost use mathlib.Core.Path.{_≡_};
 ghost use Prim.Native.Nat.{_+_, _-_, _≤_, _<_, min, max};
 ghost use lib.Dec.{leb, ltb};
 ghost use lib.ListN.{length};
-ghost use Rattle.shapes.specs.Limits.{shapeFault};
+ghost use Rattle.shapes.specs.Limits.{shapeRefusal};
 ghost use Rattle.shapes.specs.declared.Shape.the-variants.{Line as asShape};
-ghost use Rattle.coverage.specs.Frame.{Framed};
-ghost use Rattle.page.specs.Page.{inView, Lawful, Drawn};
-ghost use Rattle.lines.specs.Layout.{lineOn, lineInk, alongFrom, alongEnd, strip};
-ghost use Rattle.lines.specs.Stroke.{Ready, Standing, Within, Extended};
+ghost use Rattle.coverage.specs.inner.Frame.{Framed};
+ghost use Rattle.page.specs.inner.Paint.{inView, Lawful, Drawn};
+ghost use Rattle.lines.specs.inner.Layout.{lineOn, lineInk, alongFrom, alongEnd, strip};
+ghost use Rattle.lines.specs.inner.Stroke.{Prepared, Standing, EndInside, Extended};
 
 // The columns of the page, or its rows, from one to before another.
 pub struct Span {
@@ -33,7 +33,7 @@ fn goes_on(at: Step, top: usize, end: usize) -> bool
 
 // Draws columns under the clip, to end or to the first above row top.
 fn walk_clipped(page: &mut [u8], s: Stroke, from: Step, top: usize, end: usize) -> Step
-    requires { ⌜ Ready s (length (now page)) × Standing s from × (from .p ≤ end) × Within s end ⌝ }
+    requires { ⌜ Prepared s (length (now page)) × Standing s from × (from .p ≤ end) × EndInside s end ⌝ }
     ensures { λ to. ⌜ Extended s from to (now (page .entry)) (now (page .exit)) × (to .p ≤ end) × (to .p < end → top < to .g) ⌝ }
 {
     let mut at = from;
@@ -45,7 +45,7 @@ fn walk_clipped(page: &mut [u8], s: Stroke, from: Step, top: usize, end: usize) 
 
 // Draws columns inside the clip, from one above its lowest row, to end or to the first in its highest row.
 fn walk_inside(page: &mut [u8], s: Stroke, from: Step, end: usize) -> Step
-    requires { ⌜ Ready s (length (now page)) × Standing s from × (from .p ≤ end) × Within s end ⌝ }
+    requires { ⌜ Prepared s (length (now page)) × Standing s from × (from .p ≤ end) × EndInside s end ⌝ }
     requires { ⌜ (from .p < end → s .layout .low < from .g) ⌝ }
     ensures { λ to. ⌜ Extended s from to (now (page .entry)) (now (page .exit)) × (to .p ≤ end) ⌝ }
 {
@@ -81,7 +81,7 @@ pub fn draw_columns(
         layout: lay,
         level,
         d,
-        m: page::scale(d),
+        m: page::reciprocal(d),
     };
     let start = step::first_step(lay, f, from);
     let lower = walk_clipped(page, s, start, lay.low, end);
@@ -124,7 +124,7 @@ fn columns_of(view: View, f: Frame) -> Span
 
 // Draws a line within the clip; hands back how many pixels it touched.
 pub fn draw_line(page: &mut [u8], view: View, line: shapes::Line, level: u8) -> u64
-    requires { ⌜ Lawful view (length (now page)) × (shapeFault (asShape line) ≡ 0) ⌝ }
+    requires { ⌜ Lawful view (length (now page)) × (shapeRefusal (asShape line) ≡ 0) ⌝ }
     ensures { λ t. ⌜ Drawn (view .w) (view .h) (lineInk line level) (inView view (lineOn line)) (now (page .entry)) (now (page .exit)) t ⌝ }
 {
     let f = coverage::line::frame_of(line);

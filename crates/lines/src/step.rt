@@ -8,9 +8,9 @@ ghost use mathlib.Core.Bool.{true};
 ghost use mathlib.Core.Path.{_≡_};
 ghost use Prim.Native.Nat.{_+_, _*_, _-_, _^_, _≤_, _<_};
 ghost use lib.ListN.{length};
-ghost use Rattle.page.specs.Blend.{inkOf, Coverage, Scale};
-ghost use Rattle.lines.specs.Layout.{spotted, counted, columned, columnCount, Reachable, At, Advanced};
-ghost use Rattle.lines.specs.Stroke.{Drawable, Inner, Stepped};
+ghost use Rattle.page.specs.inner.Ink.{inkOf, Coverage, Reciprocal};
+ghost use Rattle.lines.specs.inner.Layout.{spotted, counted, columned, columnCount, Reachable, At, Advanced};
+ghost use Rattle.lines.specs.inner.Stroke.{Steppable, Inner, Stepped};
 
 // One line on one page: what its columns are drawn with.
 pub struct Stroke {
@@ -91,7 +91,7 @@ fn spot(
     m: u64,
 ) -> u64
     requires { ⌜ (show ≡ true → (origin ≤ k) × (k - origin < length (now page))) ⌝ }
-    requires { ⌜ Coverage n d × Scale d m ⌝ }
+    requires { ⌜ Coverage n d × Reciprocal d m ⌝ }
     ensures { λ t. ⌜ (now (page .exit) ≡ spotted show (inkOf level d) n (k - origin) (now (page .entry))) × (t ≡ counted show n) × (t ≤ 1) ⌝ }
 {
     if show {
@@ -116,7 +116,7 @@ fn draw_column(
     m: u64,
 ) -> u64
     requires { ⌜ Reachable lay k g (length (now page)) ⌝ }
-    requires { ⌜ Coverage (rows .upper) d × Coverage (rows .middle) d × Coverage (rows .lower) d × Scale d m ⌝ }
+    requires { ⌜ Coverage (rows .upper) d × Coverage (rows .middle) d × Coverage (rows .lower) d × Reciprocal d m ⌝ }
     ensures { λ t. ⌜ now (page .exit) ≡ columned lay (inkOf level d) rows k g (now (page .entry)) ⌝ }
     ensures { λ t. ⌜ (t ≡ columnCount lay rows g) × (t ≤ 3) ⌝ }
 {
@@ -156,7 +156,7 @@ fn draw_column(
 
 // Draws the column where a walk stands, under the clip, and goes on to the next.
 pub fn step_clipped(page: &mut [u8], s: Stroke, at: Step) -> Step
-    requires { ⌜ Drawable s at (length (now page)) ⌝ }
+    requires { ⌜ Steppable s at (length (now page)) ⌝ }
     ensures { λ to. ⌜ Stepped s at to (now (page .entry)) (now (page .exit)) ⌝ }
 {
     let f = s.frame;
@@ -169,7 +169,7 @@ pub fn step_clipped(page: &mut [u8], s: Stroke, at: Step) -> Step
 
 // Draws a column inside the clip that has two rows, and goes on to the next, in the same row.
 fn step_flat(page: &mut [u8], s: Stroke, at: Step) -> Step
-    requires { ⌜ Drawable s at (length (now page)) × Inner s at × (at .r + 2 * s .frame .s < 2 * s .frame .l) ⌝ }
+    requires { ⌜ Steppable s at (length (now page)) × Inner s at × (at .r + 2 * s .frame .s < 2 * s .frame .l) ⌝ }
     ensures { λ to. ⌜ Stepped s at to (now (page .entry)) (now (page .exit)) ⌝ }
 {
     let f = s.frame;
@@ -185,7 +185,7 @@ fn step_flat(page: &mut [u8], s: Stroke, at: Step) -> Step
 
 // Draws a column inside the clip that has three rows, or two with t = 0, and goes on to the next, one row further.
 fn step_crossed(page: &mut [u8], s: Stroke, at: Step) -> Step
-    requires { ⌜ Drawable s at (length (now page)) × Inner s at × (2 * s .frame .l ≤ at .r + 2 * s .frame .s) ⌝ }
+    requires { ⌜ Steppable s at (length (now page)) × Inner s at × (2 * s .frame .l ≤ at .r + 2 * s .frame .s) ⌝ }
     ensures { λ to. ⌜ Stepped s at to (now (page .entry)) (now (page .exit)) ⌝ }
 {
     let f = s.frame;
@@ -203,7 +203,7 @@ fn step_crossed(page: &mut [u8], s: Stroke, at: Step) -> Step
 
 // Draws the column where a walk stands, which lies inside the clip, and goes on to the next.
 pub fn step_inside(page: &mut [u8], s: Stroke, at: Step) -> Step
-    requires { ⌜ Drawable s at (length (now page)) × Inner s at ⌝ }
+    requires { ⌜ Steppable s at (length (now page)) × Inner s at ⌝ }
     ensures { λ to. ⌜ Stepped s at to (now (page .entry)) (now (page .exit)) ⌝ }
 {
     let f = s.frame;

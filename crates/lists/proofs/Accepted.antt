@@ -9,17 +9,17 @@ use lib.ListN.{length, drop, length-drop}
 use Rattle.numbers.proofs.Order.{lt-or-le, eq-or-ne}
 use Rattle.shapes.specs.declared.Record.{Record}
 use Rattle.lists.specs.Format.{headerSize, headerAt, kindAt, sizeAt, recordAt}
-use Rattle.lists.specs.Read.{readFault}
-use Rattle.lists.specs.List.{Records, accepted, refused, onto, behindEnd, headerFault, recordsFrom, recordsOf, checkedAs, checkedOf}
+use Rattle.lists.specs.Read.{readRefusal}
+use Rattle.lists.specs.List.{Records, accepted, refused, onto, behindEnd, headerRefusal, recordsFrom, recordsOf, checkedAs, checkedOf}
 use Rattle.lists.specs.declared.format.Header.{Header}
 use Rattle.lists.specs.declared.check.Checked.the-variants.{Accepted}
-use Rattle.lists.proofs.Faults.{Readable, readable}
+use Rattle.lists.proofs.Refusals.{Readable, readable}
 use Rattle.lists.proofs.Walk.{at-refusal, at-end, at-record}
 
 -- the bytes s are the records rs, the end record last
 pub data Holds (w h : ℕ) : List ℕ → List Record → Type 0 where
-  last : {s : List ℕ} → readFault w h s ≡ 0 → kindAt s ≡ 0 → length s ≡ sizeAt s → Holds w h s (recordAt s ∷ [])
-  more : {s : List ℕ} {rs : List Record} → readFault w h s ≡ 0 → (kindAt s ≡ 0 → ⊥) → Holds w h (drop (sizeAt s) s) rs
+  last : {s : List ℕ} → readRefusal w h s ≡ 0 → kindAt s ≡ 0 → length s ≡ sizeAt s → Holds w h s (recordAt s ∷ [])
+  more : {s : List ℕ} {rs : List Record} → readRefusal w h s ≡ 0 → (kindAt s ≡ 0 → ⊥) → Holds w h (drop (sizeAt s) s) rs
       → Holds w h s (recordAt s ∷ rs)
 
 never : {f place : ℕ} {rs : List Record} → refused f place ≡ accepted rs → ⊥
@@ -46,30 +46,30 @@ pub holds : (w h fuel : ℕ) (s : List ℕ) (place : ℕ) (rs : List Record) →
 unfolding recordsFrom
 holds w h zero s place rs e = absurd (never e)
 holds w h (suc fuel) s place rs e =
-    go (holds w h fuel (drop (sizeAt s) s) (place + sizeAt s)) (lt-or-le 0 (readFault w h s)) (eq-or-ne (kindAt s) 0)
+    go (holds w h fuel (drop (sizeAt s) s) (place + sizeAt s)) (lt-or-le 0 (readRefusal w h s)) (eq-or-ne (kindAt s) 0)
   where
     go : ((qs : List Record) → recordsFrom fuel w h (drop (sizeAt s) s) (place + sizeAt s) ≡ accepted qs → Holds w h (drop (sizeAt s) s) qs)
-        → (0 < readFault w h s) ⊎ (readFault w h s ≤ 0) → (kindAt s ≡ 0) ⊎ (kindAt s ≡ 0 → ⊥) → Holds w h s rs
+        → (0 < readRefusal w h s) ⊎ (readRefusal w h s ≤ 0) → (kindAt s ≡ 0) ⊎ (kindAt s ≡ 0 → ⊥) → Holds w h s rs
     go after (inl f) k = absurd (never (sym (at-refusal w h fuel s place f) ∙ e))
     go after (inr f) (inl k) =
-        let none : readFault w h s ≡ 0 = omega arith in
+        let none : readRefusal w h s ≡ 0 = omega arith in
         let b = behind (recordAt s) (behindEnd (drop (sizeAt s) s) (place + sizeAt s)) rs (sym (at-end w h fuel s place none k) ∙ e) in
         let z = nothing-behind (drop (sizeAt s) s) (place + sizeAt s) (b .rest) (b .is) in
         let n = length-drop (sizeAt s) s in
         let fits = readable w h s none .whole .fits in
         subst (Holds w h s) (sym (b .same ∙ ap (λ (qs : List Record). recordAt s ∷ qs) (z .1))) (last none k (omega arith))
     go after (inr f) (inr k) =
-        let none : readFault w h s ≡ 0 = omega arith in
+        let none : readRefusal w h s ≡ 0 = omega arith in
         let b = behind (recordAt s) (recordsFrom fuel w h (drop (sizeAt s) s) (place + sizeAt s)) rs (sym (at-record w h fuel s place none k) ∙ e) in
         subst (Holds w h s) (sym (b .same)) (more none k (after (b .rest) (b .is)))
 
 -- ---- a whole list
-pub list-headed : (s : List ℕ) (n : ℕ) (rs : List Record) → recordsOf s n ≡ accepted rs → headerFault s n ≡ 0
+pub list-headed : (s : List ℕ) (n : ℕ) (rs : List Record) → recordsOf s n ≡ accepted rs → headerRefusal s n ≡ 0
 unfolding recordsOf
-list-headed s n rs e = go (lt-or-le 0 (headerFault s n))
+list-headed s n rs e = go (lt-or-le 0 (headerRefusal s n))
   where
-    go : (0 < headerFault s n) ⊎ (headerFault s n ≤ 0) → headerFault s n ≡ 0
-    go (inl h) = absurd (never (rw (lt-ltb 0 (headerFault s n) h) at e))
+    go : (0 < headerRefusal s n) ⊎ (headerRefusal s n ≤ 0) → headerRefusal s n ≡ 0
+    go (inl h) = absurd (never (rw (lt-ltb 0 (headerRefusal s n) h) at e))
     go (inr h) = omega arith
 
 pub list-holds : (s : List ℕ) (n : ℕ) (rs : List Record) → recordsOf s n ≡ accepted rs → Holds (headerAt s .w) (headerAt s .h) (drop headerSize s) rs

@@ -16,7 +16,8 @@ use Rattle.shapes.specs.declared.Shape.the-variants.{Line as line, Disc as disc
 use Rattle.shapes.specs.declared.Setting.the-variants.{Clip as clip, Level as level}
 use Rattle.shapes.specs.declared.Record.{Record}
 use Rattle.shapes.specs.declared.Record.the-variants.{End as end, Setting as setting, Shape as shape}
-use Rattle.lists.specs.Format.{kindSize, kindOf, fieldsOf, recordBytes, padded}
+use Rattle.lists.specs.Format.{kindSize, kindOf, fieldsOf, recordBytes}
+use Rattle.lists.specs.inner.Record.{padded}
 use Rattle.lists.specs.Write.{putAt}
 
 -- a local gives back the coordinate that it was given

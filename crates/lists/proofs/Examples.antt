@@ -4,12 +4,12 @@ use mathlib.Core.Bool.{true}
 use mathlib.Core.List.{List, [], _∷_, _++_}
 use Prim.Native.Nat.{ℕ}
 use lib.IntN.{pos}
-use Rattle.shapes.specs.Limits.{sizeFault, offSize, shapeFault, offRange, coincide, offRadius, offWidth, recordFault}
+use Rattle.shapes.specs.Limits.{sizeRefusal, offSize, shapeRefusal, offRange, refusalsOf, recordRefusal}
 use Rattle.shapes.specs.declared.Shape.the-variants.{Line as line}
 use Rattle.shapes.specs.declared.Record.the-variants.{End as end, Shape as shape}
 use Rattle.lists.specs.Format.{kindSize, decoded}
-use Rattle.lists.specs.Read.{readFault}
-use Rattle.lists.specs.List.{accepted, refused, headerFault, recordsFrom, recordsOf}
+use Rattle.lists.specs.Read.{readRefusal}
+use Rattle.lists.specs.List.{accepted, refused, headerRefusal, recordsFrom, recordsOf}
 
 -- a page of 4 by 3, black
 abbrev start : List ℕ
@@ -23,11 +23,11 @@ stroke = 3 ∷ 1 ∷ 0 ∷ 1 ∷ 0 ∷ 3 ∷ 0 ∷ 2 ∷ 0 ∷ []
 abbrev point : List ℕ
 point = 3 ∷ 1 ∷ 0 ∷ 1 ∷ 0 ∷ 1 ∷ 0 ∷ 1 ∷ 0 ∷ []
 
--- as it stands; on a page that is too short; without an end record; with a surplus byte; with a fault and a surplus byte
+-- as it stands; on a page that is too short; without an end record; with a surplus byte; with a refusal and a surplus byte
 worked : (recordsOf (start ++ stroke ++ 0 ∷ []) 12 ≡ accepted (shape (line (record { exact = true; x0 = pos 1; y0 = pos 1; x1 = pos 3; y1 = pos 2 })) ∷ end ∷ []))
     × (recordsOf (start ++ stroke ++ 0 ∷ []) 11 ≡ refused 21 0)
     × (recordsOf (start ++ stroke) 12 ≡ refused 5 19)
     × (recordsOf (start ++ stroke ++ 0 ∷ 0 ∷ []) 12 ≡ refused 6 20)
     × (recordsOf (start ++ point ++ 0 ∷ 0 ∷ []) 12 ≡ refused 9 10)
-unfolding sizeFault offSize shapeFault offRange coincide offRadius offWidth recordFault kindSize decoded readFault headerFault recordsFrom recordsOf
+unfolding sizeRefusal offSize shapeRefusal offRange refusalsOf recordRefusal kindSize decoded readRefusal headerRefusal recordsFrom recordsOf
 worked = (refl, refl, refl, refl, refl)

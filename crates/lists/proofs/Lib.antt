@@ -1,9 +1,11 @@
 -- Laws of drawing lists.
 pub mod Bytes
-pub mod Faults
+pub mod Refusals
 pub mod Writes
 pub mod Walk
 pub mod Accepted
+pub mod Left
+pub mod Walkable
 pub mod ReadBack
 pub mod WriteBack
 pub mod Examples

@@ -11,7 +11,7 @@ use lib.Seq.{drop-at, length-take-le}
 use Rattle.numbers.specs.Coordinate.{inRange, bitsOf, signedOf, wordOf}
 use Rattle.numbers.proofs.Integer.{sfits-diff}
 use Rattle.numbers.proofs.Coordinate.{in-range, signed-bits, word-bytes}
-use Rattle.shapes.specs.Limits.{outside, offRange, sizeFault, shapeFault, recordFault}
+use Rattle.shapes.specs.Limits.{outside, offRange, sizeRefusal, shapeRefusal, recordRefusal}
 use Rattle.shapes.specs.declared.Line.{Line}
 use Rattle.shapes.specs.declared.Shape.{Shape}
 use Rattle.shapes.specs.declared.Shape.the-variants.{Line as line, Disc as disc, Ring as ring}
@@ -19,12 +19,12 @@ use Rattle.shapes.specs.declared.Setting.the-variants.{Clip as clip, Level as l
 use Rattle.shapes.specs.declared.Record.{Record}
 use Rattle.shapes.specs.declared.Record.the-variants.{End as end, Setting as setting, Shape as shape}
 use Rattle.lists.specs.Format.{kindOf, fieldsOf, recordBytes, coordinates, lineAt, sizeAt, decoded, recordAt}
-use Rattle.lists.specs.Read.{readFault, readingOf}
+use Rattle.lists.specs.Read.{readRefusal, readingOf}
 use Rattle.lists.specs.Write.{putAt, recordWritten, recordList}
 use Rattle.lists.specs.declared.read.Reading.the-variants.{Found}
 use Rattle.lists.proofs.Bytes.{record-size}
-use Rattle.lists.proofs.Faults.{clear, or-clear}
-use Rattle.lists.proofs.Writes.{writable, record-done, written-fault}
+use Rattle.shapes.proofs.Limits.{clear, or-clear}
+use Rattle.lists.proofs.Writes.{writable, record-done, written-refusal}
 
 -- ---- a record from its own bytes, whatever bytes follow
 
@@ -57,8 +57,8 @@ module _ (t : List ℕ) where
       of true = ap (λ (l : Line). shape (line l)) (fields 3 true)
       of false = ap (λ (l : Line). shape (line l)) (fields 4 false)
 
-  shape-back : (s : Shape) → shapeFault s ≡ 0 → recordAt (recordBytes (shape s) ++ t) ≡ shape s
-  unfolding kindOf fieldsOf decoded shapeFault offRange
+  shape-back : (s : Shape) → shapeRefusal s ≡ 0 → recordAt (recordBytes (shape s) ++ t) ≡ shape s
+  unfolding kindOf fieldsOf decoded shapeRefusal offRange
   shape-back (line l) e = line-back (l .exact) (l .x0) (l .y0) (l .x1) (l .y1) (clear (offRange (line l)) 6 _ e .0)
   shape-back (disc d) e =
       let near = or-clear (outside (d .x)) (outside (d .y)) (clear (offRange (disc d)) 6 _ e .0) in
@@ -67,25 +67,25 @@ module _ (t : List ℕ) where
       let near = or-clear (outside (g .x)) (outside (g .y)) (clear (offRange (ring g)) 6 _ e .0) in
       λ i. shape (ring (record { x = coordinate-back (g .x) (near .0) i; y = coordinate-back (g .y) (near .1) i; radius = g .radius; width = g .width }))
 
-  record-back : (w h : ℕ) (r : Record) → recordFault w h r ≡ 0 → recordAt (recordBytes r ++ t) ≡ r
-  unfolding kindOf fieldsOf decoded recordFault
+  pub record-back : (w h : ℕ) (r : Record) → recordRefusal w h r ≡ 0 → recordAt (recordBytes r ++ t) ≡ r
+  unfolding kindOf fieldsOf decoded recordRefusal
   record-back w h end e = refl
   record-back w h (setting (clip c)) e =
       λ i. setting (clip (record { x0 = word-bytes (c .x0) i; y0 = word-bytes (c .y0) i; x1 = word-bytes (c .x1) i; y1 = word-bytes (c .y1) i }))
   record-back w h (setting (level v)) e = refl
   record-back w h (shape s) e = shape-back s e
 
-  -- and it is read without a fault
-  no-fault : (w h : ℕ) (r : Record) → sizeFault w h ≡ 0 → recordFault w h r ≡ 0 → readFault w h (recordBytes r ++ t) ≡ 0
-  unfolding readFault
-  no-fault w h r page lawful =
+  -- and it is read without a refusal
+  pub no-refusal : (w h : ℕ) (r : Record) → sizeRefusal w h ≡ 0 → recordRefusal w h r ≡ 0 → readRefusal w h (recordBytes r ++ t) ≡ 0
+  unfolding readRefusal
+  no-refusal w h r page lawful =
       let size = record-size r in
       let long = length-append (recordBytes r) t in
-      simp (page, ne-eqb (length (recordBytes r ++ t)) 0 (λ e. omega arith), ne-eqb (sizeAt (recordBytes r ++ t)) 0 (λ e. omega arith), le-ltb (length (recordBytes r ++ t)) (sizeAt (recordBytes r ++ t)) (omega arith), ap (recordFault w h) (record-back w h r lawful) ∙ lawful)
+      simp (page, ne-eqb (length (recordBytes r ++ t)) 0 (λ e. omega arith), ne-eqb (sizeAt (recordBytes r ++ t)) 0 (λ e. omega arith), le-ltb (length (recordBytes r ++ t)) (sizeAt (recordBytes r ++ t)) (omega arith), ap (recordRefusal w h) (record-back w h r lawful) ∙ lawful)
 
-  pub read-bytes : (w h : ℕ) (r : Record) → sizeFault w h ≡ 0 → recordFault w h r ≡ 0 → readingOf w h (recordBytes r ++ t) ≡ Found r
+  pub read-bytes : (w h : ℕ) (r : Record) → sizeRefusal w h ≡ 0 → recordRefusal w h r ≡ 0 → readingOf w h (recordBytes r ++ t) ≡ Found r
   unfolding readingOf
-  read-bytes w h r page lawful = simp (no-fault w h r page lawful) (ap Found (record-back w h r lawful))
+  read-bytes w h r page lawful = simp (no-refusal w h r page lawful) (ap Found (record-back w h r lawful))
 
 -- ---- the bytes of a list from the place on
 
@@ -94,11 +94,11 @@ drop-put l place bs h =
     ap (drop place) (append-assoc (take place l) bs (drop (place + length bs) l))
     ∙ drop-at (take place l) (bs ++ drop (place + length bs) l) place (length-take-le place l h)
 
--- where the writer's code is 0, the record is read at the place where it was written
-pub read-written : (l : List ℕ) (place w h : ℕ) (r : Record) → recordWritten l place w h r .code ≡ 0
+-- where the writer refuses nothing, the record is read at the place where it was written
+pub read-written : (l : List ℕ) (place w h : ℕ) (r : Record) → recordWritten l place w h r .refusal ≡ 0
     → readingOf w h (drop place (recordList l place w h r)) ≡ Found r
 read-written l place w h r e =
-    let f = written-fault l place w h r e in
+    let f = written-refusal l place w h r e in
     let p = writable (length l) place w h r f in
     ap (λ (m : List ℕ). readingOf w h (drop place m)) (sym (record-done l place w h r f .1))
     ∙ ap (readingOf w h) (drop-put l place (recordBytes r) (omega (arith, p .room .inside)))

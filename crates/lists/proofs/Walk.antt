@@ -9,25 +9,25 @@ use lib.ListN.{length, getD, take, drop, length-drop}
 use lib.Seq.{take-all, drop-drop, getD-drop}
 use Rattle.shapes.specs.declared.Record.{Record}
 use Rattle.lists.specs.Format.{kindSize, kindAt, sizeAt, recordAt}
-use Rattle.lists.specs.Read.{readFault}
+use Rattle.lists.specs.Read.{readRefusal}
 use Rattle.lists.specs.List.{Records, accepted, refused, onto, behindEnd, recordsFrom, checkedAs}
 use Rattle.lists.specs.declared.format.Header.{Header}
 use Rattle.lists.specs.declared.check.Checked.{Checked}
 use Rattle.lists.specs.declared.check.Checked.the-variants.{Accepted, Refused}
-use Rattle.lists.proofs.Faults.{readable}
+use Rattle.lists.proofs.Refusals.{readable}
 
 -- ---- one turn of the definition
 module _ (w h fuel : ℕ) (s : List ℕ) (place : ℕ) where
-  pub at-refusal : 0 < readFault w h s → recordsFrom (suc fuel) w h s place ≡ refused (readFault w h s) place
+  pub at-refusal : 0 < readRefusal w h s → recordsFrom (suc fuel) w h s place ≡ refused (readRefusal w h s) place
   unfolding recordsFrom
-  at-refusal k = rw (lt-ltb 0 (readFault w h s) k)
+  at-refusal k = rw (lt-ltb 0 (readRefusal w h s) k)
 
-  pub at-end : readFault w h s ≡ 0 → kindAt s ≡ 0
+  pub at-end : readRefusal w h s ≡ 0 → kindAt s ≡ 0
       → recordsFrom (suc fuel) w h s place ≡ onto (recordAt s) (behindEnd (drop (sizeAt s) s) (place + sizeAt s))
   unfolding recordsFrom
   at-end e k = simp (e, eq-eqb (kindAt s) 0 k)
 
-  pub at-record : readFault w h s ≡ 0 → (kindAt s ≡ 0 → ⊥)
+  pub at-record : readRefusal w h s ≡ 0 → (kindAt s ≡ 0 → ⊥)
       → recordsFrom (suc fuel) w h s place ≡ onto (recordAt s) (recordsFrom fuel w h (drop (sizeAt s) s) (place + sizeAt s))
   unfolding recordsFrom
   at-record e k = simp (e, ne-eqb (kindAt s) 0 k)
@@ -47,24 +47,24 @@ pub reached-start : (d : Header) (list : List ℕ) (place : ℕ) → place ≤ l
     → Reached d list (checkedAs d (recordsFrom (suc (length list)) (d .w) (d .h) (drop place list) place)) place
 reached-start d list place h = record { inside = h; fuel = length list; enough = omega arith; same = refl }
 
--- a turn that found the fault f in the part of the list from the place on
+-- a turn that found the refusal f in the part of the list from the place on
 module _ {d : Header} {list : List ℕ} {answer : Checked} {place f : ℕ} (p : Reached d list answer place)
-    (found : f ≡ readFault (d .w) (d .h) (take (length list - place) (drop place list))) where
-  fault-is : readFault (d .w) (d .h) (drop place list) ≡ f
-  fault-is =
-      ap (readFault (d .w) (d .h)) (sym (take-all (length list - place) (drop place list) (le-of-eq (length-drop place list))))
+    (found : f ≡ readRefusal (d .w) (d .h) (take (length list - place) (drop place list))) where
+  refusal-is : readRefusal (d .w) (d .h) (drop place list) ≡ f
+  refusal-is =
+      ap (readRefusal (d .w) (d .h)) (sym (take-all (length list - place) (drop place list) (le-of-eq (length-drop place list))))
       ∙ sym found
 
   pub refused-here : 0 < f → Refused f place ≡ answer
   refused-here k =
-      let e = fault-is in
+      let e = refusal-is in
       ap (λ (n : ℕ). Refused n place) (sym e)
       ∙ sym (p .same ∙ ap (checkedAs d) (at-refusal (d .w) (d .h) (p .fuel) (drop place list) place (omega arith)))
 
-  -- no fault: the record has n bytes
+  -- no refusal: the record has n bytes
   module _ {n : ℕ} (none : f ≤ 0) (size : n ≡ kindSize (getD list place 0)) where
-    none-is : readFault (d .w) (d .h) (drop place list) ≡ 0
-    none-is = fault-is ∙ omega arith
+    none-is : readRefusal (d .w) (d .h) (drop place list) ≡ 0
+    none-is = refusal-is ∙ omega arith
 
     kind-is : kindAt (drop place list) ≡ getD list place 0
     kind-is = getD-drop place list 0 0 ∙ ap (λ (i : ℕ). getD list i 0) (omega arith)

@@ -11,14 +11,15 @@ use lib.Seq.{take-at, drop-append-add, drop-drop, drop-length, getD-drop, length
 use Rattle.numbers.specs.Coordinate.{bitsOf, signedOf, wordOf, bytesOf}
 use Rattle.numbers.proofs.Coordinate.{bits-signed, bytes-word}
 use Rattle.shapes.specs.declared.Record.{Record}
-use Rattle.lists.specs.Format.{kindSize, kindOf, fieldsOf, headerBytes, recordBytes, wordAt, headerAt, kindAt, sizeAt, decoded, recordAt, Whole}
-use Rattle.lists.specs.Read.{readFault}
+use Rattle.lists.specs.Format.{kindSize, kindOf, fieldsOf, headerBytes, recordBytes, wordAt, headerAt, kindAt, sizeAt, decoded, recordAt}
+use Rattle.lists.specs.inner.Record.{Whole}
+use Rattle.lists.specs.Read.{readRefusal}
 use Rattle.lists.specs.Write.{putAt, recordWritten, recordList, recordsList, listWritten}
 use Rattle.lists.specs.List.{markAt, accepted, recordsOf}
-use Rattle.lists.proofs.Faults.{readable, Headed, headed}
+use Rattle.lists.proofs.Refusals.{readable, Headed, headed}
 use Rattle.lists.specs.declared.write.Written.{Written}
 use Rattle.lists.proofs.Bytes.{unknown-kind}
-use Rattle.lists.proofs.Writes.{put-length, header-done, header-none, record-done, fault-none}
+use Rattle.lists.proofs.Writes.{put-length, header-done, header-none, record-done, refusal-none}
 use Rattle.lists.proofs.Accepted.{Holds, last, more, list-headed, list-holds}
 
 -- each element of a list is a byte
@@ -86,7 +87,7 @@ module _ (s : List ℕ) (b : AllBytes s) where
       ∙ sym (take-firsts 10 s (p .least))
 
 -- ---- bytes put into a list, one run behind the other
-put-put : (l : List ℕ) (place : ℕ) (bs cs : List ℕ) → place + length bs + length cs ≤ length l
+pub put-put : (l : List ℕ) (place : ℕ) (bs cs : List ℕ) → place + length bs + length cs ≤ length l
     → putAt (place + length bs) cs (putAt place bs l) ≡ putAt place (bs ++ cs) l
 put-put l place bs cs h =
     let p : List ℕ = take place l ++ bs in
@@ -100,19 +101,19 @@ put-put l place bs cs h =
     ∙ ap₂ (λ (x : List ℕ) (k : ℕ). x ++ drop k l) (append-assoc (take place l) bs cs) next
 
 -- ---- the records, one after the other
-module _ (w h : ℕ) (s : List ℕ) (none : readFault w h s ≡ 0) (b : AllBytes s) (m : List ℕ) (place : ℕ) (low : 10 ≤ place)
+module _ (w h : ℕ) (s : List ℕ) (none : readRefusal w h s ≡ 0) (b : AllBytes s) (m : List ℕ) (place : ℕ) (low : 10 ≤ place)
     (inside : place + sizeAt s ≤ length m) (most : place + sizeAt s ≤ 65536) where
   long : length (recordBytes (recordAt s)) ≡ sizeAt s
   long =
       let p = readable w h s none .whole in
       ap length (record-again s b p) ∙ length-take-le (sizeAt s) s (p .fits)
 
-  done : (record { code = 0; place = place + length (recordBytes (recordAt s)); w = w; h = h } ≡ recordWritten m place w h (recordAt s))
+  done : (record { refusal = 0; place = place + length (recordBytes (recordAt s)); w = w; h = h } ≡ recordWritten m place w h (recordAt s))
       × (putAt place (recordBytes (recordAt s)) m ≡ recordList m place w h (recordAt s))
   done =
       let p = readable w h s none in
       let n = long in
-      record-done m place w h (recordAt s) (fault-none (length m) place w h (recordAt s) (record { page = p .page; lawful = p .lawful; room = record { behind = low; inside = omega arith; most = omega arith } }))
+      record-done m place w h (recordAt s) (refusal-none (length m) place w h (recordAt s) (record { page = p .page; lawful = p .lawful; room = record { behind = low; inside = omega arith; most = omega arith } }))
 
   step-list : recordList m place w h (recordAt s) ≡ putAt place (take (sizeAt s) s) m
   step-list = sym (done .1) ∙ ap (λ (bs : List ℕ). putAt place bs m) (record-again s b (readable w h s none .whole))

@@ -10,36 +10,36 @@ use lib.Dec.{ltb}
 use lib.ListN.{length, take, drop, length-append, length-drop}
 use lib.Seq.{length-take-le}
 use Rattle.numbers.proofs.Order.{lt-or-le}
-use Rattle.shapes.specs.Limits.{sizeFault, recordFault}
+use Rattle.shapes.specs.Limits.{sizeRefusal, recordRefusal}
 use Rattle.shapes.specs.declared.Record.{Record}
 use Rattle.lists.specs.Format.{headerBytes, recordBytes}
-use Rattle.lists.specs.Write.{putAt, tooFew, headerWriteFault, recordWriteFault, headerWritten, headerList, recordWritten, recordList}
+use Rattle.lists.specs.Write.{putAt, tooFew, headerWriteRefusal, recordWriteRefusal, headerWritten, headerList, recordWritten, recordList}
 use Rattle.lists.specs.declared.format.Header.{Header}
 use Rattle.lists.specs.declared.write.Written.{Written}
-use Rattle.lists.proofs.Faults.{clear, tried-clear, or-clear}
+use Rattle.shapes.proofs.Limits.{clear, tried-clear, or-clear}
 
 module _ (l : List ℕ) (place w h : ℕ) where
   -- what both functions answer on a refusal
   abbrev pub unmoved : ℕ → Written
-  unmoved f = record { code = f; place = place; w = w; h = h }
+  unmoved f = record { refusal = f; place = place; w = w; h = h }
 
-  module _ (d : Header) {f : ℕ} (e : headerWriteFault (length l) d ≡ f) where
+  module _ (d : Header) {f : ℕ} (e : headerWriteRefusal (length l) d ≡ f) where
     pub header-refused : 0 < f → (unmoved f ≡ headerWritten l place w h d) × (l ≡ headerList l d)
     unfolding headerWritten headerList
     header-refused k = rw (e, lt-ltb 0 f k) (refl, refl)
 
-  pub header-done : (d : Header) → headerWriteFault (length l) d ≡ 0
-      → (record { code = 0; place = 10; w = d .w; h = d .h } ≡ headerWritten l place w h d) × (putAt 0 (headerBytes d) l ≡ headerList l d)
+  pub header-done : (d : Header) → headerWriteRefusal (length l) d ≡ 0
+      → (record { refusal = 0; place = 10; w = d .w; h = d .h } ≡ headerWritten l place w h d) × (putAt 0 (headerBytes d) l ≡ headerList l d)
   unfolding headerWritten headerList
   header-done d e = rw e (refl, refl)
 
-  module _ (r : Record) {f : ℕ} (e : recordWriteFault (length l) place w h r ≡ f) where
+  module _ (r : Record) {f : ℕ} (e : recordWriteRefusal (length l) place w h r ≡ f) where
     pub record-refused : 0 < f → (unmoved f ≡ recordWritten l place w h r) × (l ≡ recordList l place w h r)
     unfolding recordWritten recordList
     record-refused k = rw (e, lt-ltb 0 f k) (refl, refl)
 
-  pub record-done : (r : Record) → recordWriteFault (length l) place w h r ≡ 0
-      → (record { code = 0; place = place + length (recordBytes r); w = w; h = h } ≡ recordWritten l place w h r)
+  pub record-done : (r : Record) → recordWriteRefusal (length l) place w h r ≡ 0
+      → (record { refusal = 0; place = place + length (recordBytes r); w = w; h = h } ≡ recordWritten l place w h r)
       × (putAt place (recordBytes r) l ≡ recordList l place w h r)
   unfolding recordWritten recordList
   record-done r e = rw e (refl, refl)
@@ -58,42 +58,42 @@ room n place size e =
 
 -- ---- a record that is written
 pub record Writable (n place w h : ℕ) (r : Record) : Type 0 where
-  pub page : sizeFault w h ≡ 0
-  pub lawful : recordFault w h r ≡ 0
+  pub page : sizeRefusal w h ≡ 0
+  pub lawful : recordRefusal w h r ≡ 0
   pub room : Room n place (length (recordBytes r))
 
-pub writable : (n place w h : ℕ) (r : Record) → recordWriteFault n place w h r ≡ 0 → Writable n place w h r
-unfolding recordWriteFault
+pub writable : (n place w h : ℕ) (r : Record) → recordWriteRefusal n place w h r ≡ 0 → Writable n place w h r
+unfolding recordWriteRefusal
 writable n place w h r e =
-    let page = tried-clear (sizeFault w h) _ e in
-    let lawful = tried-clear (recordFault w h r) _ (page .1) in
+    let page = tried-clear (sizeRefusal w h) _ e in
+    let lawful = tried-clear (recordRefusal w h r) _ (page .1) in
     let last = clear (ltb place 10 || tooFew n (place + length (recordBytes r))) 21 0 (lawful .1) in
     record { page = page .0; lawful = lawful .0; room = room n place (length (recordBytes r)) (last .0) }
 
--- a code of 0 says that nothing was refused
-pub written-fault : (l : List ℕ) (place w h : ℕ) (r : Record) → recordWritten l place w h r .code ≡ 0 → recordWriteFault (length l) place w h r ≡ 0
+-- a refusal of 0 says that nothing was refused
+pub written-refusal : (l : List ℕ) (place w h : ℕ) (r : Record) → recordWritten l place w h r .refusal ≡ 0 → recordWriteRefusal (length l) place w h r ≡ 0
 unfolding recordWritten
-written-fault l place w h r e = go (recordWriteFault (length l) place w h r) e
+written-refusal l place w h r e = go (recordWriteRefusal (length l) place w h r) e
   where
-    go : (f : ℕ) → cond (ltb 0 f) (unmoved l place w h f) (record { code = 0; place = place + length (recordBytes r); w = w; h = h }) .code ≡ 0 → f ≡ 0
+    go : (f : ℕ) → cond (ltb 0 f) (unmoved l place w h f) (record { refusal = 0; place = place + length (recordBytes r); w = w; h = h }) .refusal ≡ 0 → f ≡ 0
     go zero k = refl
     go (suc f) k = rw (lt-ltb 0 (suc f) (omega arith)) at k
 
 -- and a record with room for it is not refused
-pub fault-none : (n place w h : ℕ) (r : Record) → Writable n place w h r → recordWriteFault n place w h r ≡ 0
-unfolding recordWriteFault
-fault-none n place w h r p =
+pub refusal-none : (n place w h : ℕ) (r : Record) → Writable n place w h r → recordWriteRefusal n place w h r ≡ 0
+unfolding recordWriteRefusal
+refusal-none n place w h r p =
     simp (p .page, p .lawful, le-ltb place 10 (p .room .behind), le-ltb (min n 65536) (place + length (recordBytes r)) (omega (arith, p .room .inside, p .room .most)))
 
-pub header-room : (n : ℕ) (d : Header) → headerWriteFault n d ≡ 0 → 10 ≤ n
-unfolding headerWriteFault
+pub header-room : (n : ℕ) (d : Header) → headerWriteRefusal n d ≡ 0 → 10 ≤ n
+unfolding headerWriteRefusal
 header-room n d e =
-    let size = tried-clear (sizeFault (d .w) (d .h)) _ e in
+    let size = tried-clear (sizeRefusal (d .w) (d .h)) _ e in
     let k : 10 ≤ min n 65536 = ltb-false _ _ (clear (tooFew n 10) 21 0 (size .1) .0) in
     omega arith
 
-pub header-none : (n : ℕ) (d : Header) → sizeFault (d .w) (d .h) ≡ 0 → 10 ≤ n → headerWriteFault n d ≡ 0
-unfolding headerWriteFault
+pub header-none : (n : ℕ) (d : Header) → sizeRefusal (d .w) (d .h) ≡ 0 → 10 ≤ n → headerWriteRefusal n d ≡ 0
+unfolding headerWriteRefusal
 header-none n d size long = simp (size, le-ltb (min n 65536) 10 (omega arith))
 
 -- ---- a write leaves the list as long as it is
@@ -107,20 +107,20 @@ put-length l place bs h =
 
 pub header-length : (l : List ℕ) (d : Header) → length (headerList l d) ≡ length l
 unfolding headerBytes
-header-length l d = go (lt-or-le 0 (headerWriteFault (length l) d))
+header-length l d = go (lt-or-le 0 (headerWriteRefusal (length l) d))
   where
-    go : (0 < headerWriteFault (length l) d) ⊎ (headerWriteFault (length l) d ≤ 0) → length (headerList l d) ≡ length l
+    go : (0 < headerWriteRefusal (length l) d) ⊎ (headerWriteRefusal (length l) d ≤ 0) → length (headerList l d) ≡ length l
     go (inl h) = ap length (sym (header-refused l 0 0 0 d refl h .1))
     go (inr h) =
-        let none : headerWriteFault (length l) d ≡ 0 = omega arith in
+        let none : headerWriteRefusal (length l) d ≡ 0 = omega arith in
         let long = header-room (length l) d none in
         ap length (sym (header-done l 0 0 0 d none .1)) ∙ put-length l 0 (headerBytes d) (omega arith)
 
 pub record-length : (l : List ℕ) (place w h : ℕ) (r : Record) → length (recordList l place w h r) ≡ length l
-record-length l place w h r = go (lt-or-le 0 (recordWriteFault (length l) place w h r))
+record-length l place w h r = go (lt-or-le 0 (recordWriteRefusal (length l) place w h r))
   where
-    go : (0 < recordWriteFault (length l) place w h r) ⊎ (recordWriteFault (length l) place w h r ≤ 0) → length (recordList l place w h r) ≡ length l
+    go : (0 < recordWriteRefusal (length l) place w h r) ⊎ (recordWriteRefusal (length l) place w h r ≤ 0) → length (recordList l place w h r) ≡ length l
     go (inl k) = ap length (sym (record-refused l place w h r refl k .1))
     go (inr k) =
-        let none : recordWriteFault (length l) place w h r ≡ 0 = omega arith in
+        let none : recordWriteRefusal (length l) place w h r ≡ 0 = omega arith in
         ap length (sym (record-done l place w h r none .1)) ∙ put-length l place (recordBytes r) (writable (length l) place w h r none .room .inside)

@@ -1,16 +1,15 @@
 -- "Drawing list": the header and the records as bytes. Fields of two bytes go low byte first (`wordOf`, `bytesOf`).
 use mathlib.Core.Bool.{Bool, true, false, cond}
 use mathlib.Core.List.{List, [], _∷_, _++_}
-use Prim.Native.Nat.{ℕ, _+_, _-_, _≤_, _<_}
+use Prim.Native.Nat.{ℕ, _+_}
 use lib.Dec.{eqb}
 use lib.IntN.{ℤ}
-use lib.ListN.{length, getD, replicate}
+use lib.ListN.{getD}
 use Rattle.numbers.specs.Coordinate.{bitsOf, signedOf, wordOf, bytesOf}
 use Rattle.shapes.specs.Limits.{first}
 use Rattle.shapes.specs.declared.Line.{Line}
 use Rattle.shapes.specs.declared.Disc.{Disc}
 use Rattle.shapes.specs.declared.Ring.{Ring}
-use Rattle.shapes.specs.declared.Shape.{Shape}
 use Rattle.shapes.specs.declared.Shape.the-variants.{Line as line, Disc as disc, Ring as ring}
 use Rattle.shapes.specs.declared.Clip.{Clip}
 use Rattle.shapes.specs.declared.Setting.the-variants.{Clip as clip, Level as level}
@@ -115,25 +114,3 @@ decoded k s =
 
 abbrev pub recordAt : List ℕ → Record
 recordAt s = decoded (kindAt s) s
-
--- a record of a known kind stands whole at the front of s
-pub record Whole (s : List ℕ) : Type 0 where
-  pub known : 0 < sizeAt s
-  pub fits : sizeAt s ≤ length s
-
--- ---- the bytes of a record in an array of ten
-
--- bytes with zeros behind them
-abbrev pub padded : List ℕ → List ℕ
-padded bs = bs ++ replicate (10 - length bs) 0
-
--- a radius and a width are one byte each
-unfoldable pub OneByte : Shape → Type 0
-OneByte (line l) = Unit {0}
-OneByte (disc d) = d .radius ≤ 255
-OneByte (ring g) = (g .radius ≤ 255) × (g .width ≤ 255)
-
-abbrev pub OneByteRecord : Record → Type 0
-OneByteRecord end = Unit {0}
-OneByteRecord (setting g) = Unit {0}
-OneByteRecord (shape s) = OneByte s

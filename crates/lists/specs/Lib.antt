@@ -3,3 +3,6 @@ pub mod Format
 pub mod Read
 pub mod Write
 pub mod List
+pub mod Settings
+pub mod Drawing
+pub mod inner

@@ -4,15 +4,15 @@ use mathlib.Core.List.{List, [], _∷_}
 use Prim.Native.Nat.{ℕ, zero, suc, _+_, _*_}
 use lib.Dec.{ltb, eqb}
 use lib.ListN.{length, getD, drop}
-use Rattle.shapes.specs.Limits.{first, sizeFault}
+use Rattle.shapes.specs.Limits.{first, tried, sizeRefusal}
 use Rattle.shapes.specs.declared.Record.{Record}
 use Rattle.lists.specs.Format.{listMost, headerSize, mark, version, wordAt, headerAt, kindAt, sizeAt, recordAt}
-use Rattle.lists.specs.Read.{tried, readFault}
+use Rattle.lists.specs.Read.{readRefusal}
 use Rattle.lists.specs.declared.format.Header.{Header}
 use Rattle.lists.specs.declared.check.Checked.{Checked}
 use Rattle.lists.specs.declared.check.Checked.the-variants.{Accepted, Refused}
 
--- the records of a list, the end record last; or the number of its first fault and the place
+-- the records of a list, the end record last; or the number of its first refusal and the place
 pub data Records : Type 0 where
   accepted : List Record → Records
   refused : ℕ → ℕ → Records
@@ -24,14 +24,14 @@ abbrev pub hasMark : List ℕ → Bool
 hasMark s = markAt s 0 && markAt s 1 && markAt s 2
 
 -- 12; 5 under 10 bytes; 1; 2; 3; 21 for a page of n bytes
-unfoldable pub headerFault : List ℕ → ℕ → ℕ
-headerFault s n =
+unfoldable pub headerRefusal : List ℕ → ℕ → ℕ
+headerRefusal s n =
     first
     ((ltb listMost (length s), 12)
     ∷ (ltb (length s) headerSize, 5)
     ∷ (not (hasMark s), 1)
     ∷ (not (eqb (wordAt s 3) version), 2)
-    ∷ tried (sizeFault (headerAt s .w) (headerAt s .h))
+    ∷ tried (sizeRefusal (headerAt s .w) (headerAt s .h))
     ∷ (ltb n (headerAt s .w * headerAt s .h), 21)
     ∷ [])
 
@@ -49,7 +49,7 @@ behindEnd s place = cond (ltb 0 (length s)) (refused 6 place) (accepted [])
 unfoldable pub recordsFrom : ℕ → ℕ → ℕ → List ℕ → ℕ → Records
 recordsFrom zero w h s place = refused 5 place
 recordsFrom (suc fuel) w h s place =
-    cond (ltb 0 (readFault w h s)) (refused (readFault w h s) place)
+    cond (ltb 0 (readRefusal w h s)) (refused (readRefusal w h s) place)
     (onto (recordAt s)
     (cond (eqb (kindAt s) 0)
     (behindEnd (drop (sizeAt s) s) (place + sizeAt s))
@@ -58,7 +58,7 @@ recordsFrom (suc fuel) w h s place =
 -- a whole list s, for a page of n bytes
 unfoldable pub recordsOf : List ℕ → ℕ → Records
 recordsOf s n =
-    cond (ltb 0 (headerFault s n)) (refused (headerFault s n) 0)
+    cond (ltb 0 (headerRefusal s n)) (refused (headerRefusal s n) 0)
     (recordsFrom (suc (length s)) (headerAt s .w) (headerAt s .h) (drop headerSize s) headerSize)
 
 abbrev pub checkedAs : Header → Records → Checked

@@ -1,32 +1,28 @@
 -- "The reader of one record, told W and H": its refusals, the record, and the bytes that it hands back.
-use mathlib.Core.Bool.{Bool, cond}
+use mathlib.Core.Bool.{cond}
 use mathlib.Core.List.{List, [], _∷_}
 use Prim.Native.Nat.{ℕ}
 use lib.Dec.{ltb, eqb}
 use lib.ListN.{length, drop}
-use Rattle.shapes.specs.Limits.{first, sizeFault, recordFault}
+use Rattle.shapes.specs.Limits.{first, tried, sizeRefusal, recordRefusal}
 use Rattle.lists.specs.Format.{sizeAt, recordAt}
 use Rattle.lists.specs.declared.read.Reading.{Reading}
 use Rattle.lists.specs.declared.read.Reading.the-variants.{Found, Refused}
 
--- a fault that is given by its number, as a test
-abbrev pub tried : ℕ → Bool × ℕ
-tried f = (ltb 0 f, f)
-
 -- 3; 5 where no byte is lent; 4; 5; then those of 7 to 11 that the kind has
-unfoldable pub readFault : ℕ → ℕ → List ℕ → ℕ
-readFault w h s =
+unfoldable pub readRefusal : ℕ → ℕ → List ℕ → ℕ
+readRefusal w h s =
     first
-    (tried (sizeFault w h)
+    (tried (sizeRefusal w h)
     ∷ (eqb (length s) 0, 5)
     ∷ (eqb (sizeAt s) 0, 4)
     ∷ (ltb (length s) (sizeAt s), 5)
-    ∷ tried (recordFault w h (recordAt s))
+    ∷ tried (recordRefusal w h (recordAt s))
     ∷ [])
 
 unfoldable pub readingOf : ℕ → ℕ → List ℕ → Reading
-readingOf w h s = cond (ltb 0 (readFault w h s)) (Refused (readFault w h s)) (Found (recordAt s))
+readingOf w h s = cond (ltb 0 (readRefusal w h s)) (Refused (readRefusal w h s)) (Found (recordAt s))
 
 -- the bytes past the record; after a refusal all of them
-unfoldable pub restOf : ℕ → ℕ → List ℕ → List ℕ
-restOf w h s = cond (ltb 0 (readFault w h s)) s (drop (sizeAt s) s)
+unfoldable pub pastRecord : ℕ → ℕ → List ℕ → List ℕ
+pastRecord w h s = cond (ltb 0 (readRefusal w h s)) s (drop (sizeAt s) s)

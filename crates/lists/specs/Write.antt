@@ -4,10 +4,9 @@ use mathlib.Core.List.{List, [], _∷_, _++_}
 use Prim.Native.Nat.{ℕ, _+_, min}
 use lib.Dec.{ltb}
 use lib.ListN.{length, take, drop}
-use Rattle.shapes.specs.Limits.{first, sizeFault, recordFault}
+use Rattle.shapes.specs.Limits.{first, tried, sizeRefusal, recordRefusal}
 use Rattle.shapes.specs.declared.Record.{Record}
 use Rattle.lists.specs.Format.{listMost, headerSize, headerBytes, recordBytes}
-use Rattle.lists.specs.Read.{tried}
 use Rattle.lists.specs.declared.format.Header.{Header}
 use Rattle.lists.specs.declared.write.Written.{Written}
 
@@ -20,36 +19,36 @@ abbrev pub tooFew : ℕ → ℕ → Bool
 tooFew n last = ltb (min n listMost) last
 
 -- the refusals of a write to a list of n bytes: of a header, and of a record where W and H are held
-unfoldable pub headerWriteFault : ℕ → Header → ℕ
-headerWriteFault n d = first (tried (sizeFault (d .w) (d .h)) ∷ (tooFew n headerSize, 22) ∷ [])
+unfoldable pub headerWriteRefusal : ℕ → Header → ℕ
+headerWriteRefusal n d = first (tried (sizeRefusal (d .w) (d .h)) ∷ (tooFew n headerSize, 22) ∷ [])
 
-unfoldable pub recordWriteFault : ℕ → ℕ → ℕ → ℕ → Record → ℕ
-recordWriteFault n place w h r =
+unfoldable pub recordWriteRefusal : ℕ → ℕ → ℕ → ℕ → Record → ℕ
+recordWriteRefusal n place w h r =
     first
-    (tried (sizeFault w h)
-    ∷ tried (recordFault w h r)
+    (tried (sizeRefusal w h)
+    ∷ tried (recordRefusal w h r)
     ∷ (ltb place headerSize || tooFew n (place + length (recordBytes r)), 22)
     ∷ [])
 
 -- the answer: the place, W and H from now on, which remain on a refusal
 unfoldable pub headerWritten : List ℕ → ℕ → ℕ → ℕ → Header → Written
 headerWritten l place w h d =
-    cond (ltb 0 (headerWriteFault (length l) d))
-    (record { code = headerWriteFault (length l) d; place = place; w = w; h = h })
-    (record { code = 0; place = headerSize; w = d .w; h = d .h })
+    cond (ltb 0 (headerWriteRefusal (length l) d))
+    (record { refusal = headerWriteRefusal (length l) d; place = place; w = w; h = h })
+    (record { refusal = 0; place = headerSize; w = d .w; h = d .h })
 
 unfoldable pub recordWritten : List ℕ → ℕ → ℕ → ℕ → Record → Written
 recordWritten l place w h r =
-    cond (ltb 0 (recordWriteFault (length l) place w h r))
-    (record { code = recordWriteFault (length l) place w h r; place = place; w = w; h = h })
-    (record { code = 0; place = place + length (recordBytes r); w = w; h = h })
+    cond (ltb 0 (recordWriteRefusal (length l) place w h r))
+    (record { refusal = recordWriteRefusal (length l) place w h r; place = place; w = w; h = h })
+    (record { refusal = 0; place = place + length (recordBytes r); w = w; h = h })
 
 -- the list, which remains on a refusal: a header goes to byte 0, a record to the place
 unfoldable pub headerList : List ℕ → Header → List ℕ
-headerList l d = cond (ltb 0 (headerWriteFault (length l) d)) l (putAt 0 (headerBytes d) l)
+headerList l d = cond (ltb 0 (headerWriteRefusal (length l) d)) l (putAt 0 (headerBytes d) l)
 
 unfoldable pub recordList : List ℕ → ℕ → ℕ → ℕ → Record → List ℕ
-recordList l place w h r = cond (ltb 0 (recordWriteFault (length l) place w h r)) l (putAt place (recordBytes r) l)
+recordList l place w h r = cond (ltb 0 (recordWriteRefusal (length l) place w h r)) l (putAt place (recordBytes r) l)
 
 -- the list after some records, one after the other
 unfoldable pub recordsList : List ℕ → ℕ → ℕ → ℕ → List Record → List ℕ

@@ -4,10 +4,9 @@ ghost use mathlib.Core.List.{[], _∷_};
 ghost use Prim.Native.Nat.{suc, _*_, _≤_};
 ghost use lib.Dec.{ltb};
 ghost use lib.ListN.{length, drop};
-ghost use Rattle.shapes.specs.Limits.{first, sizeFault};
+ghost use Rattle.shapes.specs.Limits.{first, tried, sizeRefusal};
 ghost use Rattle.lists.specs.Format.{headerSize};
-ghost use Rattle.lists.specs.Read.{tried};
-ghost use Rattle.lists.specs.List.{hasMark, headerFault, recordsFrom, checkedAs, checkedOf};
+ghost use Rattle.lists.specs.List.{hasMark, headerRefusal, recordsFrom, checkedAs, checkedOf};
 use super::format::HEADER_SIZE;
 use super::format::Header;
 use super::format::LIST_MOST;
@@ -15,12 +14,12 @@ use super::format::VERSION;
 use super::format::kind_size;
 use super::format::read_header;
 use super::format::word_at;
-use super::read::read_fault;
+use super::read::read_refusal;
 
 // What the check answers: the header of an accepted list, or the number of the refusal and its place.
 pub enum Checked {
     Accepted(Header),
-    Refused { number: u8, place: usize },
+    Refused { refusal: u8, place: usize },
 }
 
 // Whether the letters INK stand at the front.
@@ -38,10 +37,10 @@ fn has_mark(list: &[u8]) -> bool
 }
 
 // The first refusal of W and H for a page of so many bytes, or 0.
-fn room_fault(header: Header, page: usize) -> u8
-    ensures { λ r. ⌜ r ≡ first (tried (sizeFault (header .w) (header .h)) ∷ (ltb page (header .w * header .h), 21) ∷ []) ⌝ }
+fn room_refusal(header: Header, page: usize) -> u8
+    ensures { λ r. ⌜ r ≡ first (tried (sizeRefusal (header .w) (header .h)) ∷ (ltb page (header .w * header .h), 21) ∷ []) ⌝ }
 {
-    let size = shapes::size_fault(header.w, header.h);
+    let size = shapes::size_refusal(header.w, header.h);
     if 0 < size {
         return size;
     }
@@ -52,8 +51,8 @@ fn room_fault(header: Header, page: usize) -> u8
 }
 
 // The first refusal of the header for a page of so many bytes, or 0.
-fn header_fault(list: &[u8], page: usize) -> u8
-    ensures { λ r. ⌜ r ≡ headerFault (now (list .entry)) page ⌝ }
+fn header_refusal(list: &[u8], page: usize) -> u8
+    ensures { λ r. ⌜ r ≡ headerRefusal (now (list .entry)) page ⌝ }
 {
     if LIST_MOST < list.len() {
         return 12;
@@ -67,7 +66,7 @@ fn header_fault(list: &[u8], page: usize) -> u8
     if word_at(list, 3) != VERSION {
         return 2;
     }
-    room_fault(read_header(list), page)
+    room_refusal(read_header(list), page)
 }
 
 // Tries the records one after the other.
@@ -79,18 +78,15 @@ fn check_records(list: &[u8], header: Header) -> Checked
     let h = header.h;
     let mut place = HEADER_SIZE;
     loop {
-        let fault = read_fault(&list[place..], w, h);
-        if 0 < fault {
-            return Checked::Refused {
-                number: fault,
-                place,
-            };
+        let refusal = read_refusal(&list[place..], w, h);
+        if 0 < refusal {
+            return Checked::Refused { refusal, place };
         }
         let kind = list[place];
         place = place + kind_size(kind);
         if kind == 0 {
             if place < list.len() {
-                return Checked::Refused { number: 6, place };
+                return Checked::Refused { refusal: 6, place };
             }
             return Checked::Accepted(header);
         }
@@ -101,12 +97,9 @@ fn check_records(list: &[u8], header: Header) -> Checked
 pub fn check_list(list: &[u8], page: usize) -> Checked
     ensures { λ r. ⌜ r ≡ checkedOf (now (list .entry)) page ⌝ }
 {
-    let fault = header_fault(list, page);
-    if 0 < fault {
-        return Checked::Refused {
-            number: fault,
-            place: 0,
-        };
+    let refusal = header_refusal(list, page);
+    if 0 < refusal {
+        return Checked::Refused { refusal, place: 0 };
     }
     check_records(list, read_header(list))
 }

@@ -1,6 +1,6 @@
 // Reads one record from the front of some bytes.
 ghost use mathlib.Core.Path.{_≡_};
-ghost use Rattle.lists.specs.Read.{readFault, readingOf, restOf};
+ghost use Rattle.lists.specs.Read.{readRefusal, readingOf, pastRecord};
 use super::format::decode;
 use super::format::kind_size;
 use shapes::Record;
@@ -12,10 +12,10 @@ pub enum Reading {
 }
 
 // The first refusal of the record at the front on a page of w by h, or 0.
-pub fn read_fault(list: &[u8], w: u16, h: u16) -> u8
-    ensures { λ r. ⌜ r ≡ readFault w h (now (list .entry)) ⌝ }
+pub fn read_refusal(list: &[u8], w: u16, h: u16) -> u8
+    ensures { λ r. ⌜ r ≡ readRefusal w h (now (list .entry)) ⌝ }
 {
-    let page = shapes::size_fault(w, h);
+    let page = shapes::size_refusal(w, h);
     if 0 < page {
         return page;
     }
@@ -29,25 +29,25 @@ pub fn read_fault(list: &[u8], w: u16, h: u16) -> u8
     if list.len() < size {
         return 5;
     }
-    shapes::record_fault(w, h, decode(list))
+    shapes::record_refusal(w, h, decode(list))
 }
 
 // The record at the front.
 pub fn read_record(list: &[u8], w: u16, h: u16) -> Reading
     ensures { λ r. ⌜ r ≡ readingOf w h (now (list .entry)) ⌝ }
 {
-    let fault = read_fault(list, w, h);
-    if 0 < fault {
-        return Reading::Refused(fault);
+    let refusal = read_refusal(list, w, h);
+    if 0 < refusal {
+        return Reading::Refused(refusal);
     }
     Reading::Found(decode(list))
 }
 
 // The bytes past the record at the front, or all of them after a refusal.
 pub fn rest(list: &[u8], w: u16, h: u16) -> &[u8]
-    ensures { λ r. ⌜ now r ≡ restOf w h (now (list .entry)) ⌝ }
+    ensures { λ r. ⌜ now r ≡ pastRecord w h (now (list .entry)) ⌝ }
 {
-    if 0 < read_fault(list, w, h) {
+    if 0 < read_refusal(list, w, h) {
         return list;
     }
     let next = kind_size(list[0]);

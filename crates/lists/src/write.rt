@@ -6,7 +6,7 @@ ghost use lib.Dec.{ltb};
 ghost use lib.ListN.{length};
 ghost use lib.Seq.{paste};
 ghost use Rattle.lists.specs.Format.{headerSize};
-ghost use Rattle.lists.specs.Write.{tooFew, headerWriteFault, recordWriteFault, headerWritten, headerList, recordWritten, recordList};
+ghost use Rattle.lists.specs.Write.{tooFew, headerWriteRefusal, recordWriteRefusal, headerWritten, headerList, recordWritten, recordList};
 use super::format::HEADER_SIZE;
 use super::format::Header;
 use super::format::LIST_MOST;
@@ -17,7 +17,7 @@ use shapes::Record;
 
 // What the writer answers: the number of the refusal or 0, and the place, W and H from now on.
 pub struct Written {
-    pub code: u8,
+    pub refusal: u8,
     pub place: usize,
     pub w: u16,
     pub h: u16,
@@ -53,12 +53,12 @@ fn no_room(n: usize, place: usize, size: usize) -> bool
 }
 
 // The first refusal of a header for a list of n bytes, or 0.
-fn header_write_fault(n: usize, header: Header) -> u8
-    ensures { λ r. ⌜ r ≡ headerWriteFault n header ⌝ }
+fn header_write_refusal(n: usize, header: Header) -> u8
+    ensures { λ r. ⌜ r ≡ headerWriteRefusal n header ⌝ }
 {
-    let fault = shapes::size_fault(header.w, header.h);
-    if 0 < fault {
-        return fault;
+    let refusal = shapes::size_refusal(header.w, header.h);
+    if 0 < refusal {
+        return refusal;
     }
     if n < HEADER_SIZE {
         return 22;
@@ -67,16 +67,16 @@ fn header_write_fault(n: usize, header: Header) -> u8
 }
 
 // The first refusal of a record at a place of a list of n bytes, or 0.
-fn record_write_fault(n: usize, place: usize, w: u16, h: u16, rec: Record) -> u8
-    ensures { λ r. ⌜ r ≡ recordWriteFault n place w h rec ⌝ }
+fn record_write_refusal(n: usize, place: usize, w: u16, h: u16, rec: Record) -> u8
+    ensures { λ r. ⌜ r ≡ recordWriteRefusal n place w h rec ⌝ }
 {
-    let page = shapes::size_fault(w, h);
+    let page = shapes::size_refusal(w, h);
     if 0 < page {
         return page;
     }
-    let fault = shapes::record_fault(w, h, rec);
-    if 0 < fault {
-        return fault;
+    let refusal = shapes::record_refusal(w, h, rec);
+    if 0 < refusal {
+        return refusal;
     }
     if no_room(n, place, record_size(rec)) {
         return 22;
@@ -85,23 +85,28 @@ fn record_write_fault(n: usize, place: usize, w: u16, h: u16, rec: Record) -> u8
 }
 
 // The answer of a refusal: the place, W and H remain.
-fn refused(code: u8, place: usize, w: u16, h: u16) -> Written
-    ensures { λ r. ⌜ r ≡ record { code = code; place = place; w = w; h = h } ⌝ }
+fn refused(refusal: u8, place: usize, w: u16, h: u16) -> Written
+    ensures { λ r. ⌜ r ≡ record { refusal = refusal; place = place; w = w; h = h } ⌝ }
 {
-    Written { code, place, w, h }
+    Written {
+        refusal,
+        place,
+        w,
+        h,
+    }
 }
 
 // Writes a header to byte 0, from any place.
 pub fn write_header(list: &mut [u8], place: usize, w: u16, h: u16, header: Header) -> Written
     ensures { λ r. ⌜ (r ≡ headerWritten (now (list .entry)) place w h header) × (now (list .exit) ≡ headerList (now (list .entry)) header) ⌝ }
 {
-    let fault = header_write_fault(list.len(), header);
-    if 0 < fault {
-        return refused(fault, place, w, h);
+    let refusal = header_write_refusal(list.len(), header);
+    if 0 < refusal {
+        return refused(refusal, place, w, h);
     }
     put(list, 0, header_bytes(header), HEADER_SIZE);
     Written {
-        code: 0,
+        refusal: 0,
         place: HEADER_SIZE,
         w: header.w,
         h: header.h,
@@ -112,14 +117,14 @@ pub fn write_header(list: &mut [u8], place: usize, w: u16, h: u16, header: Heade
 pub fn write_record(list: &mut [u8], place: usize, w: u16, h: u16, rec: Record) -> Written
     ensures { λ r. ⌜ (r ≡ recordWritten (now (list .entry)) place w h rec) × (now (list .exit) ≡ recordList (now (list .entry)) place w h rec) ⌝ }
 {
-    let fault = record_write_fault(list.len(), place, w, h, rec);
-    if 0 < fault {
-        return refused(fault, place, w, h);
+    let refusal = record_write_refusal(list.len(), place, w, h, rec);
+    if 0 < refusal {
+        return refused(refusal, place, w, h);
     }
     let size = record_size(rec);
     put(list, place, record_bytes(rec), size);
     Written {
-        code: 0,
+        refusal: 0,
         place: place + size,
         w,
         h,

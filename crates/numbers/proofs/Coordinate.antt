@@ -12,9 +12,10 @@ use lib.Signed.{leZ, ltZ, nonNeg, pos-natAbs}
 use mir.Syntax.{w16}
 use mir.Val.{SFits, toZ, ofZ}
 use mir.Facts.{toZ-ofZ, ofZ-toZ}
-use Rattle.numbers.specs.Order.{dist}
+use Rattle.numbers.specs.inner.Order.{dist}
 use Rattle.numbers.proofs.Order.{lt-or-le}
-use Rattle.numbers.specs.Coordinate.{inRange, offsetOf, bitsOf, signedOf, wordOf, bytesOf}
+use Rattle.numbers.specs.Coordinate.{inRange, bitsOf, signedOf, wordOf, bytesOf}
+use Rattle.numbers.specs.inner.Offset.{offsetOf}
 use Rattle.numbers.proofs.Integer.{Diff, plus, minus, diff-of, diff-pos, diff-add, diff-minus, diff-shift, diff-unique, diff-eq, diff-le, le-diff, diff-abs, is-below, nonNeg-diff, sfits-diff}
 
 -- ---- the range

@@ -9,7 +9,7 @@ use lib.IntN.{ℤ, pos, negsuc, negℤ, natAbs, subℕ, _+ℤ_, _-ℤ_, _*ℤ_}
 use lib.Signed.{mag, leZ, nonNeg}
 use mir.Syntax.{Width}
 use mir.Val.{SFits, hbits}
-use Rattle.numbers.specs.Order.{dist}
+use Rattle.numbers.specs.inner.Order.{dist}
 
 -- z is a − b
 pub data Diff : ℤ → ℕ → ℕ → Type 0 where

@@ -3,16 +3,12 @@ use mathlib.Core.Bool.{Bool, cond, _&&_}
 use mathlib.Core.List.{List, [], _∷_}
 use Prim.Native.Nat.{ℕ, _+_, _*_, _-_, _/_, _%_}
 use lib.Dec.{ltb}
-use lib.IntN.{ℤ, pos, negsuc, natAbs, _+ℤ_}
+use lib.IntN.{ℤ, pos, negsuc}
 use lib.Signed.{leZ}
 
 -- from −4,096 to 4,095
 abbrev pub inRange : ℤ → Bool
 inRange c = leZ (negsuc 4095) c && leZ c (pos 4095)
-
--- a coordinate counted from −4,096; 8,192 stands for every number out of range
-unfoldable pub offsetOf : ℤ → ℕ
-offsetOf c = cond (inRange c) (natAbs (c +ℤ pos 4096)) 8192
 
 -- two's complement at 16 bits: the bits of a number, and the number of some bits
 abbrev pub bitsOf : ℤ → ℕ

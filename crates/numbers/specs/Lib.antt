@@ -1,6 +1,6 @@
 -- What the functions of this crate compute.
 pub mod Nearest
-pub mod Order
 pub mod Coordinate
 pub mod Fraction
 pub mod Sum
+pub mod inner

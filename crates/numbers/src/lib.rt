@@ -1,8 +1,9 @@
 // Whole-number arithmetic that the other crates share.
 ghost use mathlib.Core.Path.{_≡_};
 ghost use Prim.Native.Nat.{_≤_, _<_};
-ghost use Rattle.numbers.specs.Order.{dist, Product, Remainder};
-ghost use Rattle.numbers.specs.Coordinate.{inRange, offsetOf, bitsOf, signedOf, wordOf, bytesOf};
+ghost use Rattle.numbers.specs.inner.Order.{dist, Product, Remainder};
+ghost use Rattle.numbers.specs.Coordinate.{inRange, bitsOf, signedOf, wordOf, bytesOf};
+ghost use Rattle.numbers.specs.inner.Offset.{offsetOf};
 
 // A product of two 16-bit numbers.
 pub fn product(a: u64, b: u64) -> u64

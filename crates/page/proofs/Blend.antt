@@ -6,7 +6,8 @@ use native.Mathlib.Omega.{arith}
 use Rattle.numbers.specs.Nearest.{nearest}
 use Rattle.numbers.specs.Fraction.{_over_, Within}
 use Rattle.numbers.proofs.Nearest.{nearest-is, nearest-le, nearest-whole}
-use Rattle.page.specs.Blend.{blend, Scale, Dividend}
+use Rattle.page.specs.Blend.{blend}
+use Rattle.page.specs.inner.Ink.{Reciprocal, Dividend}
 
 -- ---- the blend
 
@@ -51,14 +52,14 @@ blend-quotient u v n d x h = ap (λ (y : ℕ). y / (2 * d)) (h .is)
 pub quotient-byte : (d x : ℕ) → 0 < d → x ≤ 511 * d → x / (2 * d) < 256
 quotient-byte d x some h = div-lt-iff-lt-mul {k = 2 * d} {x = x} {y = 256} (omega arith) .1 (omega arith)
 
--- ---- a quotient by a scale
+-- ---- a quotient by a reciprocal
 
-pub scale-is : (d : ℕ) → 0 < d → Scale d (2 ^ 55 / d + 1)
-scale-is d h = record { least = omega (arith, lt-mul-div-succ (2 ^ 55) h); most = omega (arith, div-mul-le-self (2 ^ 55) d) }
+pub reciprocal-is : (d : ℕ) → 0 < d → Reciprocal d (2 ^ 55 / d + 1)
+reciprocal-is d h = record { least = omega (arith, lt-mul-div-succ (2 ^ 55) h); most = omega (arith, div-mul-le-self (2 ^ 55) d) }
 
--- a dividend by a scale fits 64 bits
-pub scale-fits : (x d m : ℕ) → x ≤ 511 * d → d ≤ 2 ^ 30 → Scale d m → x * m < 2 ^ 64
-scale-fits x d m hx hd s = omega (arith, mul-le-mul-right m hx, s .most)
+-- a dividend by a reciprocal fits 64 bits
+pub reciprocal-fits : (x d m : ℕ) → x ≤ 511 * d → d ≤ 2 ^ 30 → Reciprocal d m → x * m < 2 ^ 64
+reciprocal-fits x d m hx hd s = omega (arith, mul-le-mul-right m hx, s .most)
 
 -- m·d is 2^56 and a little more: where x times that little stays under 2^56, the product gives the quotient
 pub near-quotient : (x d m : ℕ) → 0 < d → 2 ^ 56 ≤ m * d → x * (m * d - 2 ^ 56) < 2 ^ 56 → x * m / 2 ^ 56 ≡ x / d
@@ -71,7 +72,7 @@ near-quotient x d m some hm he = div-eq-of-lt-le {k = x / d} (2 ^ 56) {m = x * m
     high = omega (arith, ap (λ (k : ℕ). x * k) (add-sub-of-le hm), lt-mul-div-succ x some)
 
 -- that of d up to 2^23 is near enough for every dividend
-pub near-enough : (x d m : ℕ) → x ≤ 511 * d → d ≤ 8388608 → Scale d m → x * (m * (2 * d) - 2 ^ 56) < 2 ^ 56
+pub near-enough : (x d m : ℕ) → x ≤ 511 * d → d ≤ 8388608 → Reciprocal d m → x * (m * (2 * d) - 2 ^ 56) < 2 ^ 56
 near-enough x d m hx hd s =
     let e : m * (2 * d) - 2 ^ 56 ≤ 2 * d = omega (arith, s .most) in
     omega (arith, mul-le-mul hx e, mul-le-mul hd hd)

@@ -6,7 +6,7 @@ use Prim.Native.Nat.{ℕ, _≤_, _<_}
 use native.Mathlib.Omega.{arith}
 use borrow.Author.Tests.{lt-ltb, le-ltb, le-leb, lt-leb}
 use Rattle.numbers.proofs.Order.{lt-or-le}
-use Rattle.page.specs.Page.{clipped}
+use Rattle.page.specs.inner.Paint.{clipped}
 
 -- a pixel inside a clip, and outside it
 pub record Inside (x0 y0 x1 y1 x y : ℕ) : Type 0 where

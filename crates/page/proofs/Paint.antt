@@ -13,8 +13,10 @@ use borrow.Rule.Slice.PartMut.{putMid}
 use Rattle.numbers.specs.Sum.{sumTo}
 use Rattle.numbers.proofs.Order.{lt-or-le}
 use Rattle.numbers.proofs.Sum.{sum-ext, sum-zero, sum-add, sum-le, sum-window, sum-one}
-use Rattle.page.specs.Blend.{blend, inkOf}
-use Rattle.page.specs.Page.{over, dot, touch, clipped, painted, touches, Lawful, Drawn}
+use Rattle.page.specs.Blend.{blend}
+use Rattle.page.specs.inner.Ink.{inkOf}
+use Rattle.page.specs.Page.{over}
+use Rattle.page.specs.inner.Paint.{dot, touch, clipped, painted, touches, Lawful, Drawn}
 use Rattle.page.specs.declared.View.{View}
 use Rattle.page.proofs.Blend.{blend-none, blend-whole}
 use Rattle.page.proofs.Over.{length-over, over-same, over-ext, over-over, over-set, over-part}

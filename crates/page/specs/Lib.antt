@@ -1,3 +1,4 @@
--- Blending, and pages drawn pixel by pixel.
+-- Blending, and the bytes of a page.
 pub mod Blend
 pub mod Page
+pub mod inner

@@ -2,8 +2,10 @@
 ghost use mathlib.Core.Path.{_≡_};
 ghost use Prim.Native.Nat.{_+_, _-_, _*_, _^_, _/_, _≤_, _<_};
 ghost use lib.ListN.{length, getD, set};
-ghost use Rattle.page.specs.Blend.{blend, Coverage, Scale, Dividend};
-ghost use Rattle.page.specs.Page.{over, touch};
+ghost use Rattle.page.specs.Blend.{blend};
+ghost use Rattle.page.specs.inner.Ink.{Coverage, Reciprocal, Dividend};
+ghost use Rattle.page.specs.Page.{over};
+ghost use Rattle.page.specs.inner.Paint.{touch};
 
 // The width and height of a page, and a clip on it.
 pub struct View {
@@ -15,15 +17,15 @@ pub struct View {
     pub y1: usize,
 }
 
-// The scale of the blends over d.
-pub fn scale(d: u64) -> u64
+// The reciprocal of the blends over d.
+pub fn reciprocal(d: u64) -> u64
     requires { ⌜ (0 < d) × (d ≤ 2 ^ 30) ⌝ }
-    ensures { λ m. ⌜ Scale d m ⌝ }
+    ensures { λ m. ⌜ Reciprocal d m ⌝ }
 {
     36028797018963968 / d + 1
 }
 
-// x over d by a scale m of about 2^56 over d. The quotient that m gives is tested, so any m that fits will do.
+// x over d by a reciprocal m, about 2^56 over d. The quotient that m gives is tested, so any m that fits will do.
 fn quotient(x: u64, d: u64, m: u64) -> u64
     requires { ⌜ (0 < d) × (d ≤ 2 ^ 31) × (x * m < 2 ^ 64) ⌝ }
     ensures { λ q. ⌜ q ≡ x / d ⌝ }
@@ -38,7 +40,7 @@ fn quotient(x: u64, d: u64, m: u64) -> u64
     x / d
 }
 
-// x over d by a scale m that is near enough for x: it needs no test.
+// x over d by a reciprocal m that is near enough for x: it needs no test.
 fn near_quotient(x: u64, d: u64, m: u64) -> u64
     requires { ⌜ (0 < d) × (x * m < 2 ^ 64) × (2 ^ 56 ≤ m * d) × (x * (m * d - 2 ^ 56) < 2 ^ 56) ⌝ }
     ensures { λ q. ⌜ q ≡ x / d ⌝ }
@@ -54,9 +56,9 @@ fn dividend(u: u8, v: u8, n: u64, d: u64) -> u64
     2 * ((u as u64) * (d - n) + (v as u64) * n) + d
 }
 
-// Level v over byte u at coverage n over d, by the scale of d: up to 2^23 that is near enough.
+// Level v over byte u at coverage n over d, by the reciprocal of d: up to 2^23 that is near enough.
 pub fn blend_byte(u: u8, v: u8, n: u64, d: u64, m: u64) -> u8
-    requires { ⌜ Coverage n d × Scale d m ⌝ }
+    requires { ⌜ Coverage n d × Reciprocal d m ⌝ }
     ensures { λ r. ⌜ r ≡ blend u v n d ⌝ }
 {
     let x = dividend(u, v, n, d);
@@ -77,7 +79,7 @@ pub fn blend_byte_512(u: u8, v: u8, n: u64) -> u8
 
 // Blends byte k of a page.
 pub fn put(page: &mut [u8], k: usize, v: u8, n: u64, d: u64, m: u64)
-    requires { ⌜ (k < length (now page)) × Coverage n d × Scale d m ⌝ }
+    requires { ⌜ (k < length (now page)) × Coverage n d × Reciprocal d m ⌝ }
     ensures { λ _. ⌜ now (page .exit) ≡ set (now (page .entry)) k (blend (getD (now (page .entry)) k 0) v n d) ⌝ }
 {
     let u = page[k];

@@ -6,7 +6,7 @@ use Rattle.lists.specs.Format.{headerAt}
 use Rattle.lists.specs.List.{recordsOf}
 use Rattle.drawing.specs.declared.Answer.{Answer}
 use Rattle.drawing.specs.declared.Answer.the-variants.{Drawn, Refused}
-use Rattle.drawing.specs.Claim.{answerOf, pageOf}
+use Rattle.drawing.specs.Claim.{listAnswer, listPage}
 use Rattle.print.specs.Text.{refusalText, pageText}
 
 -- an answer, with the page as it is then
@@ -17,4 +17,4 @@ answerText (Refused f place) page = refusalText f place
 -- a list drawn on a page
 unfoldable pub listText : List ℕ → List ℕ → List ℕ
 listText list page =
-    answerText (answerOf (headerAt list) (recordsOf list (length page))) (pageOf (headerAt list) (recordsOf list (length page)) page)
+    answerText (listAnswer (headerAt list) (recordsOf list (length page))) (listPage (headerAt list) (recordsOf list (length page)) page)

@@ -16,7 +16,7 @@ fn put_answer(out: &mut [u8], page: &[u8], answer: Answer) -> usize
 {
     match answer {
         Answer::Drawn { w, h, touched } => text::put_page(out, page, w, h, touched),
-        Answer::Refused { number, place } => text::put_refusal(out, number, place),
+        Answer::Refused { refusal, place } => text::put_refusal(out, refusal, place),
     }
 }
 

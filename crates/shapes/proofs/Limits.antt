@@ -2,7 +2,7 @@
 use mathlib.Core.Path.{_≡_, refl, sym, _∙_, ap, ap₂}
 use mathlib.Core.Bool.{Bool, true, false, not, cond, _&&_, _||_}
 use mathlib.Core.Logic.{_⊎_, inl, inr}
-use Prim.Native.Nat.{ℕ, _+_, _≤_, _<_}
+use Prim.Native.Nat.{ℕ, zero, suc, _+_, _≤_, _<_}
 use native.Mathlib.Omega.{arith}
 use borrow.Author.Tests.{lt-ltb, le-ltb, eq-eqb, ne-eqb, not-false, ltb-false}
 use lib.Dec.{T, ltb, eqb}
@@ -11,13 +11,14 @@ use lib.Signed.{leZ}
 use mir.Syntax.{w16}
 use mir.Val.{SFits, toZ, ofZ}
 use mir.Facts.{toZ-ofZ}
-use Rattle.numbers.specs.Order.{dist}
-use Rattle.numbers.specs.Coordinate.{inRange, offsetOf}
+use Rattle.numbers.specs.inner.Order.{dist}
+use Rattle.numbers.specs.Coordinate.{inRange}
+use Rattle.numbers.specs.inner.Offset.{offsetOf}
 use Rattle.numbers.proofs.Order.{lt-or-le, eq-or-ne}
 use Rattle.numbers.proofs.Integer.{diff-le, le-diff}
 use Rattle.numbers.proofs.Coordinate.{InRange, in-range, range-offset}
-use Rattle.shapes.specs.Limits.{outside, same, offRange, coincide, offRadius, offWidth, shapeFault}
-use Rattle.shapes.specs.Offsets.{pointOf, endsOf}
+use Rattle.shapes.specs.Limits.{outside, same, offRange, offRadius, refusalsOf, shapeRefusal}
+use Rattle.shapes.specs.inner.Offsets.{pointOf, endsOf}
 use Rattle.shapes.specs.declared.Point.{Point}
 use Rattle.shapes.specs.declared.Ends.{Ends}
 use Rattle.shapes.specs.declared.Line.{Line}
@@ -28,6 +29,27 @@ use Rattle.shapes.specs.declared.Shape.the-variants.{Line as line, Disc 
 -- the disc around a ring
 abbrev pub outer : Ring → Disc
 outer g = record { x = g .x; y = g .y; radius = g .radius }
+
+-- ---- the first of some refusals is none
+
+pub clear : (b : Bool) (n m : ℕ) → cond b (suc n) m ≡ 0 → (b ≡ false) × (m ≡ 0)
+clear true n m e = absurd (omega arith)
+clear false n m e = (refl, e)
+
+pub tried-clear : (f m : ℕ) → cond (ltb 0 f) f m ≡ 0 → (f ≡ 0) × (m ≡ 0)
+tried-clear zero m e = (refl, e)
+tried-clear (suc f) m e = absurd (let k = rw (lt-ltb 0 (suc f) (omega arith)) at e in omega arith)
+
+pub or-clear : (a b : Bool) → a || b ≡ false → (a ≡ false) × (b ≡ false)
+or-clear true b e = absurd (let z : _≡_ {A = ℕ} 0 1 = cc in omega arith)
+or-clear false b e = (refl, e)
+
+-- a refusal that is tried last is the answer
+pub tried-last : (f : ℕ) → cond (ltb 0 f) f 0 ≡ f
+tried-last zero = refl
+tried-last (suc f) = rw (lt-ltb 0 (suc f) (omega arith))
+
+-- ---- the refusals by offsets
 
 T-true : (t : Bool) → T t → t ≡ true
 T-true true h = refl
@@ -70,11 +92,11 @@ pub point-kept : {x y : ℤ} {p : Point} → SFits w16 x → SFits w16 y → p �
 point-kept f g e = rw (toZ-ofZ f, toZ-ofZ g) at e
 
 -- the refusals of a line by the offsets of its ends
-pub line-faults : (l : Line) (e : Ends) → e ≡ endsOf l
-    → shapeFault (line l)
+pub line-refusals : (l : Line) (e : Ends) → e ≡ endsOf l
+    → shapeRefusal (line l)
     ≡ cond (ltb 8191 (e .x0) || ltb 8191 (e .y0) || ltb 8191 (e .x1) || ltb 8191 (e .y1)) 7 (cond (eqb (e .x0) (e .x1) && eqb (e .y0) (e .y1)) 9 0)
-unfolding shapeFault offRange coincide offRadius offWidth
-line-faults l e h =
+unfolding shapeRefusal offRange refusalsOf
+line-refusals l e h =
     rw (h, ← outside-offset (l .x0), ← outside-offset (l .y0), ← outside-offset (l .x1), ← outside-offset (l .y1))
     (go (outside (l .x0)) (outside (l .y0)) (outside (l .x1)) (outside (l .y1)) refl refl refl refl)
   where
@@ -88,17 +110,17 @@ line-faults l e h =
     go false false false false e₀ e₁ e₂ e₃ = rw (same-offset (in-of e₀) (in-of e₂), same-offset (in-of e₁) (in-of e₃))
 
 -- those of a disc
-pub disc-faults : (d : Disc) (p : Point) → p ≡ pointOf (d .x) (d .y)
-    → shapeFault (disc d) ≡ cond (ltb 8191 (p .x) || ltb 8191 (p .y)) 7 (cond (ltb (d .radius) 1 || ltb 255 (d .radius)) 10 0)
-unfolding shapeFault offRange coincide offRadius offWidth
-disc-faults d p h = rw (h, outside-offset (d .x), outside-offset (d .y))
+pub disc-refusals : (d : Disc) (p : Point) → p ≡ pointOf (d .x) (d .y)
+    → shapeRefusal (disc d) ≡ cond (ltb 8191 (p .x) || ltb 8191 (p .y)) 7 (cond (ltb (d .radius) 1 || ltb 255 (d .radius)) 10 0)
+unfolding shapeRefusal offRange refusalsOf
+disc-refusals d p h = rw (h, outside-offset (d .x), outside-offset (d .y))
 
 -- those of a ring: its disc, then its width
-pub ring-faults : (g : Ring)
-    → shapeFault (ring g)
-    ≡ cond (ltb 0 (shapeFault (disc (outer g)))) (shapeFault (disc (outer g))) (cond (ltb (g .width) 1 || ltb (g .radius) (g .width)) 11 0)
-unfolding shapeFault offRange coincide offRadius offWidth
-ring-faults g = go (outside (g .x) || outside (g .y)) (ltb (g .radius) 1 || ltb 255 (g .radius)) (cond (ltb (g .width) 1 || ltb (g .radius) (g .width)) 11 0)
+pub ring-refusals : (g : Ring)
+    → shapeRefusal (ring g)
+    ≡ cond (ltb 0 (shapeRefusal (disc (outer g)))) (shapeRefusal (disc (outer g))) (cond (ltb (g .width) 1 || ltb (g .radius) (g .width)) 11 0)
+unfolding shapeRefusal offRange refusalsOf
+ring-refusals g = go (outside (g .x) || outside (g .y)) (ltb (g .radius) 1 || ltb 255 (g .radius)) (cond (ltb (g .width) 1 || ltb (g .radius) (g .width)) 11 0)
   where
     go : (a b : Bool) (n : ℕ) → cond a 7 (cond b 10 n) ≡ cond (ltb 0 (cond a 7 (cond b 10 0))) (cond a 7 (cond b 10 0)) n
     go true b n = refl
@@ -122,27 +144,23 @@ apart a b c d e = go (eq-or-ne a b) (eq-or-ne c d)
     go (inl p) (inr q) = omega arith
     go (inr p) q = omega arith
 
-pub line-lawful : (l : Line) → shapeFault (line l) ≡ 0 → LawfulLine l
-unfolding shapeFault offRange coincide offRadius offWidth
-line-lawful l = go (outside (l .x0)) (outside (l .y0)) (outside (l .x1)) (outside (l .y1)) (same (l .x0) (l .x1) && same (l .y0) (l .y1)) refl refl refl refl refl
-  where
-    go : (a b c d e : Bool) → outside (l .x0) ≡ a → outside (l .y0) ≡ b → outside (l .x1) ≡ c → outside (l .y1) ≡ d
-        → (same (l .x0) (l .x1) && same (l .y0) (l .y1)) ≡ e → _≡_ {A = ℕ} (cond (a || b || c || d) 7 (cond e 9 0)) 0 → LawfulLine l
-    go true b c d e h₀ h₁ h₂ h₃ h z = absurd (omega arith)
-    go false true c d e h₀ h₁ h₂ h₃ h z = absurd (omega arith)
-    go false false true d e h₀ h₁ h₂ h₃ h z = absurd (omega arith)
-    go false false false true e h₀ h₁ h₂ h₃ h z = absurd (omega arith)
-    go false false false false true h₀ h₁ h₂ h₃ h z = absurd (omega arith)
-    go false false false false false h₀ h₁ h₂ h₃ h z =
-        record {
-          x0-in = in-of h₀;
-          y0-in = in-of h₁;
-          x1-in = in-of h₂;
-          y1-in = in-of h₃;
-          differ =
-              apart (offsetOf (l .x0)) (offsetOf (l .x1)) (offsetOf (l .y0)) (offsetOf (l .y1))
-              (ap₂ _&&_ (sym (same-offset (in-of h₀) (in-of h₂))) (sym (same-offset (in-of h₁) (in-of h₃))) ∙ h);
-        }
+pub line-lawful : (l : Line) → shapeRefusal (line l) ≡ 0 → LawfulLine l
+unfolding shapeRefusal offRange refusalsOf
+line-lawful l z =
+    let k = clear (offRange (line l)) 6 _ z in
+    let a = or-clear (outside (l .x0) || outside (l .y0) || outside (l .x1)) (outside (l .y1)) (k .0) in
+    let b = or-clear (outside (l .x0) || outside (l .y0)) (outside (l .x1)) (a .0) in
+    let c = or-clear (outside (l .x0)) (outside (l .y0)) (b .0) in
+    record {
+      x0-in = in-of (c .0);
+      y0-in = in-of (c .1);
+      x1-in = in-of (b .1);
+      y1-in = in-of (a .1);
+      differ =
+          apart (offsetOf (l .x0)) (offsetOf (l .x1)) (offsetOf (l .y0)) (offsetOf (l .y1))
+          (ap₂ _&&_ (sym (same-offset (in-of (c .0)) (in-of (b .1)))) (sym (same-offset (in-of (c .1)) (in-of (a .1))))
+          ∙ clear (same (l .x0) (l .x1) && same (l .y0) (l .y1)) 8 0 (k .1) .0);
+    }
 
 -- a circle with its centre in range and its radius from 1 to 255
 pub record LawfulCircle (x y : ℤ) (radius : ℕ) : Type 0 where
@@ -151,19 +169,16 @@ pub record LawfulCircle (x y : ℤ) (radius : ℕ) : Type 0 where
   pub least : 1 ≤ radius
   pub most : radius ≤ 255
 
-circle-lawful : (x y : ℤ) (radius n : ℕ) → cond (outside x || outside y) 7 (cond (ltb radius 1 || ltb 255 radius) 10 n) ≡ 0 → LawfulCircle x y radius × (n ≡ 0)
-circle-lawful x y radius n = go (outside x) (outside y) (ltb radius 1) (ltb 255 radius) refl refl refl refl
-  where
-    go : (a b c d : Bool) → outside x ≡ a → outside y ≡ b → ltb radius 1 ≡ c → ltb 255 radius ≡ d → cond (a || b) 7 (cond (c || d) 10 n) ≡ 0 → LawfulCircle x y radius × (n ≡ 0)
-    go true b c d h₀ h₁ h₂ h₃ z = absurd (omega arith)
-    go false true c d h₀ h₁ h₂ h₃ z = absurd (omega arith)
-    go false false true d h₀ h₁ h₂ h₃ z = absurd (omega arith)
-    go false false false true h₀ h₁ h₂ h₃ z = absurd (omega arith)
-    go false false false false h₀ h₁ h₂ h₃ z =
-        (record { x-in = in-of h₀; y-in = in-of h₁; least = omega (arith, ltb-false radius 1 h₂); most = omega (arith, ltb-false 255 radius h₃) }, z)
+circle-lawful : (x y : ℤ) (radius n : ℕ) → cond (outside x || outside y) 7 (cond (offRadius radius) 10 n) ≡ 0 → LawfulCircle x y radius × (n ≡ 0)
+circle-lawful x y radius n z =
+    let a = clear (outside x || outside y) 6 _ z in
+    let b = clear (offRadius radius) 9 n (a .1) in
+    let c = or-clear (outside x) (outside y) (a .0) in
+    let d = or-clear (ltb radius 1) (ltb 255 radius) (b .0) in
+    (record { x-in = in-of (c .0); y-in = in-of (c .1); least = omega (arith, ltb-false radius 1 (d .0)); most = omega (arith, ltb-false 255 radius (d .1)) }, b .1)
 
-pub disc-lawful : (d : Disc) → shapeFault (disc d) ≡ 0 → LawfulCircle (d .x) (d .y) (d .radius)
-unfolding shapeFault offRange coincide offRadius offWidth
+pub disc-lawful : (d : Disc) → shapeRefusal (disc d) ≡ 0 → LawfulCircle (d .x) (d .y) (d .radius)
+unfolding shapeRefusal offRange refusalsOf
 disc-lawful d z = circle-lawful (d .x) (d .y) (d .radius) 0 z .0
 
 pub record LawfulRing (g : Ring) : Type 0 where
@@ -171,13 +186,9 @@ pub record LawfulRing (g : Ring) : Type 0 where
   pub least : 1 ≤ g .width
   pub most : g .width ≤ g .radius
 
-pub ring-lawful : (g : Ring) → shapeFault (ring g) ≡ 0 → LawfulRing g
-unfolding shapeFault offRange coincide offRadius offWidth
+pub ring-lawful : (g : Ring) → shapeRefusal (ring g) ≡ 0 → LawfulRing g
+unfolding shapeRefusal offRange refusalsOf
 ring-lawful g z =
     let c = circle-lawful (g .x) (g .y) (g .radius) (cond (ltb (g .width) 1 || ltb (g .radius) (g .width)) 11 0) z in
-    go (ltb (g .width) 1) (ltb (g .radius) (g .width)) refl refl (c .0) (c .1)
-  where
-    go : (a b : Bool) → ltb (g .width) 1 ≡ a → ltb (g .radius) (g .width) ≡ b → LawfulCircle (g .x) (g .y) (g .radius) → _≡_ {A = ℕ} (cond (a || b) 11 0) 0 → LawfulRing g
-    go true b h₀ h₁ c z = absurd (omega arith)
-    go false true h₀ h₁ c z = absurd (omega arith)
-    go false false h₀ h₁ c z = record { circle = c; least = omega (arith, ltb-false (g .width) 1 h₀); most = omega (arith, ltb-false (g .radius) (g .width) h₁) }
+    let k = or-clear (ltb (g .width) 1) (ltb (g .radius) (g .width)) (clear (ltb (g .width) 1 || ltb (g .radius) (g .width)) 10 0 (c .1) .0) in
+    record { circle = c .0; least = omega (arith, ltb-false (g .width) 1 (k .0)); most = omega (arith, ltb-false (g .radius) (g .width) (k .1)) }

@@ -1,3 +1,4 @@
--- The limits of shapes, clips and records.
+-- The limits of shapes, clips and records, and the spans of a line.
 pub mod Limits
-pub mod Offsets
+pub mod Span
+pub mod inner

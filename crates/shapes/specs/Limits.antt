@@ -1,5 +1,5 @@
 -- "Turning down": which numbers are refused, and in which order they are tried.
-use mathlib.Core.Bool.{Bool, false, not, cond, _&&_, _||_}
+use mathlib.Core.Bool.{Bool, not, cond, _&&_, _||_}
 use mathlib.Core.List.{List, [], _∷_}
 use Prim.Native.Nat.{ℕ}
 use lib.Dec.{ltb, leb}
@@ -17,6 +17,10 @@ use Rattle.shapes.specs.declared.Record.the-variants.{End as end, Settin
 abbrev pub first : List (Bool × ℕ) → ℕ
 first [] = 0
 first (t ∷ ts) = cond (t .0) (t .1) (first ts)
+
+-- a refusal that is given by its number, as a test
+abbrev pub tried : ℕ → Bool × ℕ
+tried f = (ltb 0 f, f)
 
 -- 3: W or H outside 1 to 1,024
 unfoldable pub offSize : ℕ → ℕ → Bool
@@ -39,36 +43,28 @@ offPage w h c = not (leb (c .x0) (c .x1) && leb (c .x1) w && leb (c .y0) (c .y1)
 abbrev pub same : ℤ → ℤ → Bool
 same a b = leZ a b && leZ b a
 
--- 9: a line whose ends coincide
-unfoldable pub coincide : Shape → Bool
-coincide (line l) = same (l .x0) (l .x1) && same (l .y0) (l .y1)
-coincide (disc d) = false
-coincide (ring g) = false
-
 -- 10: a radius of 0 or above 255
-unfoldable pub offRadius : Shape → Bool
-offRadius (line l) = false
-offRadius (disc d) = ltb (d .radius) 1 || ltb 255 (d .radius)
-offRadius (ring g) = ltb (g .radius) 1 || ltb 255 (g .radius)
+abbrev pub offRadius : ℕ → Bool
+offRadius r = ltb r 1 || ltb 255 r
 
--- 11: a ring's width of 0 or above the radius
-unfoldable pub offWidth : Shape → Bool
-offWidth (line l) = false
-offWidth (disc d) = false
-offWidth (ring g) = ltb (g .width) 1 || ltb (g .radius) (g .width)
+-- what else is tried of a shape. 9: a line whose ends coincide. 11: a ring's width of 0 or above the radius
+unfoldable pub refusalsOf : Shape → List (Bool × ℕ)
+refusalsOf (line l) = (same (l .x0) (l .x1) && same (l .y0) (l .y1), 9) ∷ []
+refusalsOf (disc d) = (offRadius (d .radius), 10) ∷ []
+refusalsOf (ring g) = (offRadius (g .radius), 10) ∷ (ltb (g .width) 1 || ltb (g .radius) (g .width), 11) ∷ []
 
 -- what is tried of W and H, of a clip, of a shape and of a record
-unfoldable pub sizeFault : ℕ → ℕ → ℕ
-sizeFault w h = first ((offSize w h, 3) ∷ [])
+unfoldable pub sizeRefusal : ℕ → ℕ → ℕ
+sizeRefusal w h = first ((offSize w h, 3) ∷ [])
 
-unfoldable pub clipFault : ℕ → ℕ → Clip → ℕ
-clipFault w h c = first ((offPage w h c, 8) ∷ [])
+unfoldable pub clipRefusal : ℕ → ℕ → Clip → ℕ
+clipRefusal w h c = first ((offPage w h c, 8) ∷ [])
 
-unfoldable pub shapeFault : Shape → ℕ
-shapeFault s = first ((offRange s, 7) ∷ (coincide s, 9) ∷ (offRadius s, 10) ∷ (offWidth s, 11) ∷ [])
+unfoldable pub shapeRefusal : Shape → ℕ
+shapeRefusal s = first ((offRange s, 7) ∷ refusalsOf s)
 
-unfoldable pub recordFault : ℕ → ℕ → Record → ℕ
-recordFault w h end = 0
-recordFault w h (setting (clip c)) = clipFault w h c
-recordFault w h (setting (level v)) = 0
-recordFault w h (shape s) = shapeFault s
+unfoldable pub recordRefusal : ℕ → ℕ → Record → ℕ
+recordRefusal w h end = 0
+recordRefusal w h (setting (clip c)) = clipRefusal w h c
+recordRefusal w h (setting (level v)) = 0
+recordRefusal w h (shape s) = shapeRefusal s

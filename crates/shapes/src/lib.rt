@@ -1,7 +1,7 @@
 // The shapes, the settings and the records of a drawing list, and the limits of each.
 ghost use mathlib.Core.Path.{_≡_};
-ghost use Rattle.shapes.specs.Limits.{sizeFault, clipFault, shapeFault, recordFault};
-ghost use Rattle.shapes.specs.Offsets.{pointOf, endsOf};
+ghost use Rattle.shapes.specs.Limits.{sizeRefusal, clipRefusal, shapeRefusal, recordRefusal};
+ghost use Rattle.shapes.specs.inner.Offsets.{pointOf, endsOf};
 
 pub struct Line {
     pub exact: bool,
@@ -83,8 +83,8 @@ pub fn ends_of(line: Line) -> Ends
 }
 
 // The refusal of W and H, 3, or 0.
-pub fn size_fault(w: u16, h: u16) -> u8
-    ensures { λ r. ⌜ r ≡ sizeFault w h ⌝ }
+pub fn size_refusal(w: u16, h: u16) -> u8
+    ensures { λ r. ⌜ r ≡ sizeRefusal w h ⌝ }
 {
     if w < 1 {
         return 3;
@@ -102,8 +102,8 @@ pub fn size_fault(w: u16, h: u16) -> u8
 }
 
 // The refusal of a clip on a page of w by h, 8, or 0.
-pub fn clip_fault(w: u16, h: u16, clip: Clip) -> u8
-    ensures { λ r. ⌜ r ≡ clipFault w h clip ⌝ }
+pub fn clip_refusal(w: u16, h: u16, clip: Clip) -> u8
+    ensures { λ r. ⌜ r ≡ clipRefusal w h clip ⌝ }
 {
     if clip.x1 < clip.x0 {
         return 8;
@@ -121,8 +121,8 @@ pub fn clip_fault(w: u16, h: u16, clip: Clip) -> u8
 }
 
 // The first refusal of a line, 7 or 9, or 0.
-fn line_fault(line: Line) -> u8
-    ensures { λ r. ⌜ r ≡ shapeFault (Shape.Line line) ⌝ }
+fn line_refusal(line: Line) -> u8
+    ensures { λ r. ⌜ r ≡ shapeRefusal (Shape.Line line) ⌝ }
 {
     let e = ends_of(line);
     if 8191 < e.x0 {
@@ -147,8 +147,8 @@ fn line_fault(line: Line) -> u8
 }
 
 // The first refusal of a disc, 7 or 10, or 0.
-fn disc_fault(disc: Disc) -> u8
-    ensures { λ r. ⌜ r ≡ shapeFault (Shape.Disc disc) ⌝ }
+fn disc_refusal(disc: Disc) -> u8
+    ensures { λ r. ⌜ r ≡ shapeRefusal (Shape.Disc disc) ⌝ }
 {
     let p = point_of(disc.x, disc.y);
     if 8191 < p.x {
@@ -167,10 +167,10 @@ fn disc_fault(disc: Disc) -> u8
 }
 
 // The first refusal of a ring: that of its disc, then 11, or 0.
-fn ring_fault(ring: Ring) -> u8
-    ensures { λ r. ⌜ r ≡ shapeFault (Shape.Ring ring) ⌝ }
+fn ring_refusal(ring: Ring) -> u8
+    ensures { λ r. ⌜ r ≡ shapeRefusal (Shape.Ring ring) ⌝ }
 {
-    let outer = disc_fault(Disc {
+    let outer = disc_refusal(Disc {
         x: ring.x,
         y: ring.y,
         radius: ring.radius,
@@ -188,26 +188,26 @@ fn ring_fault(ring: Ring) -> u8
 }
 
 // The first refusal of a shape, 7, 9, 10 or 11, or 0.
-pub fn shape_fault(shape: Shape) -> u8
-    ensures { λ r. ⌜ r ≡ shapeFault shape ⌝ }
+pub fn shape_refusal(shape: Shape) -> u8
+    ensures { λ r. ⌜ r ≡ shapeRefusal shape ⌝ }
 {
     match shape {
-        Shape::Line(line) => line_fault(line),
-        Shape::Disc(disc) => disc_fault(disc),
-        Shape::Ring(ring) => ring_fault(ring),
+        Shape::Line(line) => line_refusal(line),
+        Shape::Disc(disc) => disc_refusal(disc),
+        Shape::Ring(ring) => ring_refusal(ring),
     }
 }
 
 // The first refusal of a record on a page of w by h, 7 to 11, or 0.
-pub fn record_fault(w: u16, h: u16, rec: Record) -> u8
-    ensures { λ r. ⌜ r ≡ recordFault w h rec ⌝ }
+pub fn record_refusal(w: u16, h: u16, rec: Record) -> u8
+    ensures { λ r. ⌜ r ≡ recordRefusal w h rec ⌝ }
 {
     match rec {
         Record::End => 0,
         Record::Setting(setting) => match setting {
-            Setting::Clip(clip) => clip_fault(w, h, clip),
+            Setting::Clip(clip) => clip_refusal(w, h, clip),
             Setting::Level(_) => 0,
         },
-        Record::Shape(shape) => shape_fault(shape),
+        Record::Shape(shape) => shape_refusal(shape),
     }
 }

@@ -3,14 +3,14 @@ use libc::STDOUT_FILENO;
 
 fn print_answer(answer: coverage::Answer) {
     match answer {
-        coverage::Answer::Covered(share) => {
-            io::print_decimal(STDOUT_FILENO, share.n);
+        coverage::Answer::Covered(ratio) => {
+            io::print_decimal(STDOUT_FILENO, ratio.n);
             io::write_all(STDOUT_FILENO, b" ");
-            io::print_decimal(STDOUT_FILENO, share.d);
+            io::print_decimal(STDOUT_FILENO, ratio.d);
         }
-        coverage::Answer::Refused(fault) => {
+        coverage::Answer::Refused(refusal) => {
             io::write_all(STDOUT_FILENO, b"refused ");
-            io::print_decimal(STDOUT_FILENO, fault as u64);
+            io::print_decimal(STDOUT_FILENO, refusal as u64);
         }
     }
     io::write_all(STDOUT_FILENO, b"\n");

@@ -147,7 +147,7 @@ module _ (X : RattleType) (answerOf : List ℕ → ℕ → ℕ → ℕ → X .De
   thin-clauses 𝓤 = λ κs a. record {
     ghost = Unit {0};
     requires = λ _. emp 𝓤;
-    ensures = λ _ r e. fact 𝓤 ((r ≡ answer (now (a .0)) (a .1 .0) .code) × (now (e .0) ≡ after (now (a .0)) (a .1 .0)));
+    ensures = λ _ r e. fact 𝓤 ((r ≡ answer (now (a .0)) (a .1 .0) .refusal) × (now (e .0) ≡ after (now (a .0)) (a .1 .0)));
   }
 
 -- ---- the walk
@@ -203,14 +203,14 @@ module _ (ty : Ty) (callee : Name) (X : RattleType) (answerOf : List ℕ → ℕ
   abbrev Post : Val → SProp 𝓤
   Post = walkOf 𝓤 H A (thin-ended X answerOf listOf) (stayed X answerOf listOf) (thin-clauses X answerOf listOf 𝓤) .post (((κ, (κ′, tt)), (q, (q′, tt)), bounds, a, vals), tt)
 
-  exits : (r : Written) (zs : List ℕ) → (r ≡ answerOf ys (p .place) (p .w) (p .h) y) × (zs ≡ listOf ys (p .place) (p .w) (p .h) y) → r .code < 2 ^ 8
-      → ent 𝓤 (⋆ 𝓤 H A (‵ (fobs γ (R .coded .code (h zs r))) ∷ ‵ (fbor κ (Body (mem R) b o γ)) ∷ ‵ (flft κ q) ∷ ‵ (flft κ′ q′) ∷ [])) (Post (vint w8 (r .code)))
-  exits r zs e code-fits =
+  exits : (r : Written) (zs : List ℕ) → (r ≡ answerOf ys (p .place) (p .w) (p .h) y) × (zs ≡ listOf ys (p .place) (p .w) (p .h) y) → r .refusal < 2 ^ 8
+      → ent 𝓤 (⋆ 𝓤 H A (‵ (fobs γ (R .coded .code (h zs r))) ∷ ‵ (fbor κ (Body (mem R) b o γ)) ∷ ‵ (flft κ q) ∷ ‵ (flft κ′ q′) ∷ [])) (Post (vint w8 (r .refusal)))
+  exits r zs e refusal-fits =
       qed W (‵ (fobs γ (R .coded .code (h zs r))) ∷ ‵ (fbor κ (Body (mem R) b o γ)) ∷ ‵ (flft κ q) ∷ ‵ (flft κ′ q′) ∷ []) ∵
-      suffices ! _ (ends-at 𝓤 H A (thin-ended X answerOf listOf) (stayed X answerOf listOf) (thin-clauses X answerOf listOf 𝓤) W (((κ, (κ′, tt)), (q, (q′, tt)), bounds, a, vals), tt) (vint w8 (r .code)) (r .code) (h zs r, (X-last y, tt)) (tt, (tt, tt))) $ says ! ((λ i. e .0 i .code), (λ i. h (e .1 i) (e .0 i))) $
+      suffices ! _ (ends-at 𝓤 H A (thin-ended X answerOf listOf) (stayed X answerOf listOf) (thin-clauses X answerOf listOf 𝓤) W (((κ, (κ′, tt)), (q, (q′, tt)), bounds, a, vals), tt) (vint w8 (r .refusal)) (r .refusal) (h zs r, (X-last y, tt)) (tt, (tt, tt))) $ says ! ((λ i. e .0 i .refusal), (λ i. h (e .1 i) (e .0 i))) $
       nothing ! $ move ! (4 ∷ 0 ∷ []) $ join ! $ move ! (3 ∷ 0 ∷ []) $ join ! $ frame ! $ feqI ! (List Val) (vptr b o ∷ []) (vptr b o ∷ []) refl $ fjoin3 ! $
       nothing ! $ owned ! X (Is X) X-makes y _ y-is $ fjoin ! $
-      move ! (1 ∷ 0 ∷ []) $ fjoin ! $ owned ! u8 (Is u8) (uint-makes 𝓤 H A W w8) (r .code) _ (refl, code-fits) $ move ! (1 ∷ 0 ∷ []) $ done !
+      move ! (1 ∷ 0 ∷ []) $ fjoin ! $ owned ! u8 (Is u8) (uint-makes 𝓤 H A W w8) (r .refusal) _ (refl, refusal-fits) $ move ! (1 ∷ 0 ∷ []) $ done !
 
   module _ (C : Calls 𝓤 H) (Λ : Loops 𝓤 H) (fm : FmC 𝓤 H (W .laws) C) (known : Triple 𝓤 (C callee) (Covered X answerOf listOf 𝓤 H A)) where
     walk : ent 𝓤 (onEntry 𝓤 H A (thin-ended X answerOf listOf .signature) (κ, (κ′, tt)) (q, (q′, tt)) a vals) (WpFn 𝓤 H C Λ (thin ty callee) (vptr b o ∷ v ∷ []) Post)
@@ -276,7 +276,7 @@ module _ (ty : Ty) (callee : Name) (X : RattleType) (answerOf : List ℕ → ℕ
       (λ κs. (ptr-vals, ((λ y. val y ∷ []), tt))) (λ κs. (mut-tells (named 0) (κs .0) (T.the-row (namedLft 2 1 tt κs)), (X-tells, tt)))
       (λ κs qs bounds a g are. via 𝓤 _ (fst∗ 𝓤 _ (emp 𝓤))
       (walk ty callee X answerOf listOf 𝓤 H A W X-makes X-last (κs .0) (κs .1 .0) bounds (qs .0) (qs .1 .0) (a .0 .ptr .0) (a .0 .ptr .1) (a .0 .name)
-      (a .0 .now .list .ptr .0) (a .0 .now .list .ptr .1) (a .0 .now .list .name) (a .0 .now .list .now) (record { code = 0; place = a .0 .now .place; w = a .0 .now .w; h = a .0 .now .h })
+      (a .0 .now .list .ptr .0) (a .0 .now .list .ptr .1) (a .0 .now .list .name) (a .0 .now .list .now) (record { refusal = 0; place = a .0 .now .place; w = a .0 .now .w; h = a .0 .now .h })
       (a .1 .0) (val (a .1 .0)) (are .1 .0) (X-typed (a .1 .0) (are .1 .0)) C Λ fm known))
 
   pub thin-meets : (𝓣 : Tables 𝓤 H) → Triple 𝓤 (𝓣 .C callee) (Covered X answerOf listOf 𝓤 H A)

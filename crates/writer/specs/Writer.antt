@@ -10,31 +10,31 @@ use Rattle.writer.specs.declared.Writer.{Writer}
 use Rattle.writer.specs.declared.Pair.{Pair}
 
 -- the answer of a write by a writer
-abbrev pub headerAnswer : Writer → Header → Written
-headerAnswer x d = headerWritten (now (x .list)) (x .place) (x .w) (x .h) d
+abbrev pub headerBy : Writer → Header → Written
+headerBy x d = headerWritten (now (x .list)) (x .place) (x .w) (x .h) d
 
-abbrev pub recordAnswer : Writer → Record → Written
-recordAnswer x r = recordWritten (now (x .list)) (x .place) (x .w) (x .h) r
+abbrev pub recordBy : Writer → Record → Written
+recordBy x r = recordWritten (now (x .list)) (x .place) (x .w) (x .h) r
 
 -- the writer with a list and the place, W and H of an answer; `at-last` keeps the borrow and changes what it holds
 abbrev pub moved : Writer → List ℕ → Written → Writer
 moved x l a = record { list = at-last (x .list) l; place = a .place; w = a .w; h = a .h }
 
 abbrev pub headed : Writer → Header → Writer
-headed x d = moved x (headerList (now (x .list)) d) (headerAnswer x d)
+headed x d = moved x (headerList (now (x .list)) d) (headerBy x d)
 
 abbrev pub recorded : Writer → Record → Writer
-recorded x r = moved x (recordList (now (x .list)) (x .place) (x .w) (x .h) r) (recordAnswer x r)
+recorded x r = moved x (recordList (now (x .list)) (x .place) (x .w) (x .h) r) (recordBy x r)
 
 -- a header by a writer at place 0 that holds W and H of 0, and a record behind it
-abbrev pub first : List ℕ → Header → Written
-first l d = headerWritten l 0 0 0 d
+abbrev pub headerFirst : List ℕ → Header → Written
+headerFirst l d = headerWritten l 0 0 0 d
 
-abbrev pub second : List ℕ → Header → Record → Written
-second l d r = recordWritten (headerList l d) (first l d .place) (first l d .w) (first l d .h) r
+abbrev pub recordSecond : List ℕ → Header → Record → Written
+recordSecond l d r = recordWritten (headerList l d) (headerFirst l d .place) (headerFirst l d .w) (headerFirst l d .h) r
 
 abbrev pub pairOf : List ℕ → Header → Record → Pair
-pairOf l d r = record { header = first l d .code; rec = second l d r .code; place = second l d r .place }
+pairOf l d r = record { header = headerFirst l d .refusal; rec = recordSecond l d r .refusal; place = recordSecond l d r .place }
 
 abbrev pub pairList : List ℕ → Header → Record → List ℕ
-pairList l d r = recordList (headerList l d) (first l d .place) (first l d .w) (first l d .h) r
+pairList l d r = recordList (headerList l d) (headerFirst l d .place) (headerFirst l d .w) (headerFirst l d .h) r

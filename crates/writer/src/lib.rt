@@ -1,7 +1,7 @@
 // The writer of a drawing list: the list being written together with the place reached, W and H.
 // The work is done by `lists::write`; the thin functions take the writer apart and store what is answered.
 ghost use mathlib.Core.Path.{_≡_};
-ghost use Rattle.writer.specs.Writer.{headerAnswer, recordAnswer, headed, recorded, pairOf, pairList};
+ghost use Rattle.writer.specs.Writer.{headerBy, recordBy, headed, recorded, pairOf, pairList};
 use lists::format::Header;
 use shapes::Record;
 
@@ -14,7 +14,7 @@ pub struct Writer<'a> {
 
 // Writes a header to byte 0. The answer is the number of the refusal, or 0.
 pub fn write_header<'s, 'a>(writer: &'s mut Writer<'a>, header: Header) -> u8
-    ensures { λ r. ⌜ (r ≡ headerAnswer (now (writer .entry)) header .code) × (now (writer .exit) ≡ headed (now (writer .entry)) header) ⌝ }
+    ensures { λ r. ⌜ (r ≡ headerBy (now (writer .entry)) header .refusal) × (now (writer .exit) ≡ headed (now (writer .entry)) header) ⌝ }
 {
     let written = lists::write::write_header(
         &mut *writer.list,
@@ -26,12 +26,12 @@ pub fn write_header<'s, 'a>(writer: &'s mut Writer<'a>, header: Header) -> u8
     writer.place = written.place;
     writer.w = written.w;
     writer.h = written.h;
-    written.code
+    written.refusal
 }
 
 // Writes a record to the place. The answer is the number of the refusal, or 0.
 pub fn write_record<'s, 'a>(writer: &'s mut Writer<'a>, rec: Record) -> u8
-    ensures { λ r. ⌜ (r ≡ recordAnswer (now (writer .entry)) rec .code) × (now (writer .exit) ≡ recorded (now (writer .entry)) rec) ⌝ }
+    ensures { λ r. ⌜ (r ≡ recordBy (now (writer .entry)) rec .refusal) × (now (writer .exit) ≡ recorded (now (writer .entry)) rec) ⌝ }
 {
     let written = lists::write::write_record(
         &mut *writer.list,
@@ -43,7 +43,7 @@ pub fn write_record<'s, 'a>(writer: &'s mut Writer<'a>, rec: Record) -> u8
     writer.place = written.place;
     writer.w = written.w;
     writer.h = written.h;
-    written.code
+    written.refusal
 }
 
 // The answers for a header and for one record behind it, and the place that is reached.

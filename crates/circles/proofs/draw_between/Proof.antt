@@ -1,6 +1,6 @@
 -- The arrays hold the heights of the two circles, and the ring has nothing outside its box.
 use native.Mathlib.Omega.{arith}
-use Rattle.circles.specs.Row.{at}
+use Rattle.circles.specs.inner.Row.{at}
 use Rattle.circles.proofs.Box.{held, boxed-drawn, boxed-empty, boxed-ready}
 use borrow.Author.Needs.{needs}
 use Rattle.circles.proofs.draw_between.Statement.{statement}

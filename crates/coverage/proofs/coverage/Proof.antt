@@ -4,9 +4,9 @@ use native.Mathlib.Omega.{arith}
 use mir.Syntax.{w16}
 use mir.Val.{toZ, ofZ}
 use Rattle.numbers.specs.Coordinate.{inRange}
-use Rattle.shapes.specs.Limits.{shapeFault}
-use Rattle.coverage.specs.Coverage.{shareOf, queried}
-use Rattle.coverage.specs.declared.Share.{Share}
+use Rattle.shapes.specs.Limits.{shapeRefusal}
+use Rattle.coverage.specs.Coverage.{ratioOf, queried}
+use Rattle.coverage.specs.declared.Ratio.{Ratio}
 use Rattle.coverage.specs.declared.Answer.the-variants.{Covered}
 use Rattle.shapes.specs.declared.Shape.the-variants.{Line as line, Disc as disc, Ring as ring}
 use Rattle.coverage.proofs.Query.{refused, covered, lawful}
@@ -17,75 +17,75 @@ use Rattle.coverage.proofs.coverage.Tie as tie
 -- a query without a refusal: the shape is lawful and the pixel in range
 passed : (c : tie.Else1)
     → let a = c .before .before .args in
-    (shapeFault (a .shape) ≡ 0) × (inRange (toZ w16 (ofZ w16 (a .x))) ≡ true) × (inRange (toZ w16 (ofZ w16 (a .y))) ≡ true)
+    (shapeRefusal (a .shape) ≡ 0) × (inRange (toZ w16 (ofZ w16 (a .x))) ≡ true) × (inRange (toZ w16 (ofZ w16 (a .y))) ≡ true)
 passed c =
     let s = c .before .before in
-    lawful (s .args .shape) (s .fits .x) (s .fits .y) (c .before .query-fault .ensures) (omega arith)
+    lawful (s .args .shape) (s .fits .x) (s .fits .y) (c .before .query-refusal .ensures) (omega arith)
 
 -- and its answer
-answered : (c : tie.Else1) (share : Share)
+answered : (c : tie.Else1) (ratio : Ratio)
     → let a = c .before .before .args in
-    share ≡ shareOf (a .shape) (toZ w16 (ofZ w16 (a .x))) (toZ w16 (ofZ w16 (a .y))) → Covered share ≡ queried (a .shape) (a .x) (a .y)
+    ratio ≡ ratioOf (a .shape) (toZ w16 (ofZ w16 (a .x))) (toZ w16 (ofZ w16 (a .y))) → Covered ratio ≡ queried (a .shape) (a .x) (a .y)
 answered c =
     let s = c .before .before in
-    covered (s .args .shape) (s .fits .x) (s .fits .y) (c .before .query-fault .ensures) (omega arith)
+    covered (s .args .shape) (s .fits .x) (s .fits .y) (c .before .query-refusal .ensures) (omega arith)
 
-query-fault-requires : tie.Need-query-fault-requires
-query-fault-requires c κs = search needs
+query-refusal-requires : tie.Need-query-refusal-requires
+query-refusal-requires c κs = search needs
 
 returns : tie.Need-returns
 returns c =
     let s = c .before .before in
-    refused (s .args .shape) (s .fits .x) (s .fits .y) (c .before .query-fault .ensures) (omega arith)
+    refused (s .args .shape) (s .fits .x) (s .fits .y) (c .before .query-refusal .ensures) (omega arith)
 
 enum-known-shape : tie.Need-enum-known-shape
 enum-known-shape c = search needs
 
-line-share-requires : tie.Need-line-share-requires
-line-share-requires c κs =
+line-ratio-requires : tie.Need-line-ratio-requires
+line-ratio-requires c κs =
     let q = passed (c .before .before .before) in
-    let e : shapeFault (line (c .before .shape .given .0 .0)) ≡ 0 = cc in
+    let e : shapeRefusal (line (c .before .shape .given .0 .0)) ≡ 0 = cc in
     (e, q .1, q .2)
 
 enum-known-shape-2 : tie.Need-enum-known-shape-2
 enum-known-shape-2 c = search needs
 
-disc-share-requires : tie.Need-disc-share-requires
-disc-share-requires c κs =
+disc-ratio-requires : tie.Need-disc-ratio-requires
+disc-ratio-requires c κs =
     let q = passed (c .before .before .before) in
-    let e : shapeFault (disc (c .before .shape2 .given .0 .0)) ≡ 0 = cc in
+    let e : shapeRefusal (disc (c .before .shape2 .given .0 .0)) ≡ 0 = cc in
     (e, q .1, q .2)
 
 enum-known-shape-3 : tie.Need-enum-known-shape-3
 enum-known-shape-3 c = search needs
 
-ring-share-requires : tie.Need-ring-share-requires
-ring-share-requires c κs =
+ring-ratio-requires : tie.Need-ring-ratio-requires
+ring-ratio-requires c κs =
     let q = passed (c .before .before .before) in
-    let e : shapeFault (ring (c .before .shape3 .given .0 .0)) ≡ 0 = cc in
+    let e : shapeRefusal (ring (c .before .shape3 .given .0 .0)) ≡ 0 = cc in
     (e, q .1, q .2)
 
 returns-2 : tie.Need-returns-2
-returns-2 c = answered (c .before .before .before .before) (c .line-share .result) (cc)
+returns-2 c = answered (c .before .before .before .before) (c .line-ratio .result) (cc)
 
 returns-3 : tie.Need-returns-3
-returns-3 c = answered (c .before .before .before .before) (c .disc-share .result) (cc)
+returns-3 c = answered (c .before .before .before .before) (c .disc-ratio .result) (cc)
 
 returns-4 : tie.Need-returns-4
-returns-4 c = answered (c .before .before .before .before) (c .ring-share .result) (cc)
+returns-4 c = answered (c .before .before .before .before) (c .ring-ratio .result) (cc)
 
 pub coverage-spec : {M : Type 1} → statement M
 coverage-spec =
     tie.close
     (tie.spec
-    query-fault-requires
+    query-refusal-requires
     returns
     enum-known-shape
-    line-share-requires
+    line-ratio-requires
     enum-known-shape-2
-    disc-share-requires
+    disc-ratio-requires
     enum-known-shape-3
-    ring-share-requires
+    ring-ratio-requires
     returns-2
     returns-3
     returns-4)

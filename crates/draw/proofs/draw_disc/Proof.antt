@@ -1,6 +1,6 @@
 use mathlib.Core.Path.{_≡_}
 use native.Mathlib.Omega.{arith}
-use Rattle.shapes.specs.Offsets.{pointOf}
+use Rattle.shapes.specs.inner.Offsets.{pointOf}
 use Rattle.shapes.proofs.Limits.{disc-lawful, point-kept}
 use Rattle.draw.proofs.Touches.{disc-on}
 use borrow.Author.Needs.{needs}

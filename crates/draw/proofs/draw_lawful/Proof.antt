@@ -1,13 +1,13 @@
 use mathlib.Core.Path.{_≡_}
 use mathlib.Core.List.{List}
 use Prim.Native.Nat.{ℕ}
-use Rattle.shapes.specs.Limits.{shapeFault}
+use Rattle.shapes.specs.Limits.{shapeRefusal}
 use Rattle.shapes.specs.declared.Shape.{Shape}
 use Rattle.shapes.specs.declared.Shape.the-variants.{Line as line, Disc as disc, Ring as ring}
-use Rattle.coverage.specs.Coverage.{drawnD}
-use Rattle.page.specs.Blend.{inkOf}
-use Rattle.page.specs.Page.{inView, Drawn}
-use Rattle.draw.specs.Draw.{shapeOn}
+use Rattle.coverage.specs.Coverage.{rulesOf, drawnD}
+use Rattle.page.specs.inner.Ink.{inkOf}
+use Rattle.page.specs.inner.Paint.{inView, Drawn}
+use Rattle.coverage.specs.inner.OnPage.{shapeOn}
 use borrow.Author.Needs.{needs}
 use Rattle.draw.proofs.draw_lawful.Statement.{statement}
 use Rattle.draw.proofs.draw_lawful.Tie as tie
@@ -24,19 +24,19 @@ enum-known-shape : tie.Need-enum-known-shape
 enum-known-shape c = search needs
 
 draw-line-requires : tie.Need-draw-line-requires
-draw-line-requires c κs = let e : shapeFault (line (c .before .before .shape .given .0 .0)) ≡ 0 = cc in (c .before .before .before .before .before .pre .0, e)
+draw-line-requires c κs = let e : shapeRefusal (line (c .before .before .shape .given .0 .0)) ≡ 0 = cc in (c .before .before .before .before .before .pre .0, e)
 
 enum-known-shape-2 : tie.Need-enum-known-shape-2
 enum-known-shape-2 c = search needs
 
 draw-disc-requires : tie.Need-draw-disc-requires
-draw-disc-requires c κs = let e : shapeFault (disc (c .before .before .shape2 .given .0 .0)) ≡ 0 = cc in (c .before .before .before .before .before .pre .0, e)
+draw-disc-requires c κs = let e : shapeRefusal (disc (c .before .before .shape2 .given .0 .0)) ≡ 0 = cc in (c .before .before .before .before .before .pre .0, e)
 
 enum-known-shape-3 : tie.Need-enum-known-shape-3
 enum-known-shape-3 c = search needs
 
 draw-ring-requires : tie.Need-draw-ring-requires
-draw-ring-requires c κs = let e : shapeFault (ring (c .before .before .shape3 .given .0 .0)) ≡ 0 = cc in (c .before .before .before .before .before .pre .0, e)
+draw-ring-requires c κs = let e : shapeRefusal (ring (c .before .before .shape3 .given .0 .0)) ≡ 0 = cc in (c .before .before .before .before .before .pre .0, e)
 
 same-length : tie.Need-same-length
 same-length c = search needs
@@ -51,7 +51,7 @@ same-length-2 : tie.Need-same-length-2
 same-length-2 c = search needs
 
 returns-2 : tie.Need-returns-2
-unfolding drawnD
+unfolding rulesOf
 returns-2 c =
     let s = c .before .before .before .before .before .before .before .before in
     let e : disc (c .before .before .before .before .before .shape2 .given .0 .0) ≡ s .args .shape = cc in
@@ -61,7 +61,7 @@ same-length-3 : tie.Need-same-length-3
 same-length-3 c = search needs
 
 returns-3 : tie.Need-returns-3
-unfolding drawnD
+unfolding rulesOf
 returns-3 c =
     let s = c .before .before .before .before .before .before .before .before in
     let e : ring (c .before .before .before .before .before .shape3 .given .0 .0) ≡ s .args .shape = cc in

@@ -1,6 +1,8 @@
 use mathlib.Core.Path.{sym, _∙_}
 use denote.Ref.{now}
-use Rattle.drawing.proofs.Bytes.{refused-claim, room, lent, few, list-drawable, accepted-claim}
+use lib.ListN.{length}
+use Rattle.lists.proofs.Walkable.{room}
+use Rattle.drawing.proofs.Bytes.{refused-claim, lent, few, lent-drawable, accepted-claim}
 use borrow.Author.Needs.{needs}
 use Rattle.drawing.proofs.draw_list.Statement.{statement}
 use Rattle.drawing.proofs.draw_list.Tie as tie
@@ -24,13 +26,13 @@ mul-n : tie.Need-mul-n
 mul-n c = record { fits = few (now (c .before .before .before .before .before .before .before .before .args .list)) (now (c .before .before .before .before .before .before .before .before .args .page)) (c .before .before .before .checked2 .given .0 .0) (sym (c .before .before .before .checked2 .given .1) ∙ c .before .before .before .before .before .check-list .ensures) }
 
 slice-relend-prefix-paint : tie.Need-slice-relend-prefix-paint
-slice-relend-prefix-paint c = room (now (c .before .before .before .before .before .before .before .before .args .list)) (now (c .before .before .before .before .before .before .before .before .args .page)) (c .before .before .before .checked2 .given .0 .0) (sym (c .before .before .before .checked2 .given .1) ∙ c .before .before .before .before .before .check-list .ensures)
+slice-relend-prefix-paint c = room (now (c .before .before .before .before .before .before .before .before .args .list)) (length (now (c .before .before .before .before .before .before .before .before .args .page))) (c .before .before .before .checked2 .given .0 .0) (sym (c .before .before .before .checked2 .given .1) ∙ c .before .before .before .before .before .check-list .ensures)
 
 slice-aggregate-paint : tie.Need-slice-aggregate-paint
 slice-aggregate-paint c = lent (now (c .before .before .before .before .before .before .before .before .before .args .list)) (now (c .before .before .before .before .before .before .before .before .before .args .page)) (c .before .before .before .before .checked2 .given .0 .0) (sym (c .before .before .before .before .checked2 .given .1) ∙ c .before .before .before .before .before .before .check-list .ensures)
 
 paint-requires : tie.Need-paint-requires
-paint-requires c κs = list-drawable (now (c .before .before .before .before .before .before .before .before .before .args .list)) (now (c .before .before .before .before .before .before .before .before .before .args .page)) (c .before .before .before .before .checked2 .given .0 .0) (sym (c .before .before .before .before .checked2 .given .1) ∙ c .before .before .before .before .before .before .check-list .ensures)
+paint-requires c κs = lent-drawable (now (c .before .before .before .before .before .before .before .before .before .args .list)) (now (c .before .before .before .before .before .before .before .before .before .args .page)) (c .before .before .before .before .checked2 .given .0 .0) (sym (c .before .before .before .before .checked2 .given .1) ∙ c .before .before .before .before .before .before .check-list .ensures)
 
 returns : tie.Need-returns
 returns c = refused-claim (now (c .before .before .before .before .before .before .args .list)) (now (c .before .before .before .before .before .before .args .page)) _ _ (sym (c .before .checked .given .1) ∙ c .before .before .before .check-list .ensures)

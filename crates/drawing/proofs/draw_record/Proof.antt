@@ -1,9 +1,9 @@
 use mathlib.Core.Path.{_≡_, refl}
 use native.Mathlib.Omega.{arith}
-use Rattle.shapes.specs.Limits.{shapeFault, recordFault}
-use Rattle.drawing.specs.Drawing.{drawingOf}
+use Rattle.shapes.specs.Limits.{shapeRefusal, recordRefusal}
+use Rattle.lists.specs.Drawing.{drawingOf}
 use Rattle.drawing.specs.Page.{shapesCount}
-use Rattle.drawing.specs.Walk.{shapesPage}
+use Rattle.drawing.specs.inner.Walk.{shapesPage}
 use Rattle.drawing.proofs.Records.{shape-drawn}
 use borrow.Author.Needs.{needs}
 use Rattle.drawing.proofs.draw_record.Statement.{statement}
@@ -19,10 +19,10 @@ view-of-requires : tie.Need-view-of-requires
 view-of-requires c κs = search needs
 
 draw-lawful-requires : tie.Need-draw-lawful-requires
-unfolding recordFault
+unfolding recordRefusal
 draw-lawful-requires c κs =
     let pre = c .before .before .before .before .before .before .pre in
-    let e : shapeFault (c .before .before .before .rec .given .0 .0) ≡ 0 = rw (c .before .before .before .rec .given .1) at (pre .1) in
+    let e : shapeRefusal (c .before .before .before .rec .given .0 .0) ≡ 0 = rw (c .before .before .before .rec .given .1) at (pre .1) in
     (rw (c .view-of .ensures) (pre .0), e)
 
 enum-told-2 : tie.Need-enum-told-2
@@ -36,7 +36,7 @@ same-length : tie.Need-same-length
 same-length c = search needs
 
 returns-2 : tie.Need-returns-2
-unfolding recordFault
+unfolding recordRefusal
 returns-2 c = rw (c .before .before .before .before .before .before .rec .given .1) (shape-drawn _ _ (c .before .before .before .before .before .before .before .before .before .fits .level .fits) (c .before .before .before .before .before .before .before .before .before .pre .0) (rw (c .before .before .before .before .before .before .rec .given .1) at (c .before .before .before .before .before .before .before .before .before .pre .1)) (rw (c .before .before .before .view-of .ensures) at (c .before .before .draw-lawful .ensures)))
 
 returns-3 : tie.Need-returns-3

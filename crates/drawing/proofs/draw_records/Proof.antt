@@ -5,9 +5,11 @@ use borrow.Author.Needs.{needs}
 use denote.Ref.{now}
 use lib.ListN.{length}
 use Rattle.drawing.specs.Page.{shapesCount}
-use Rattle.drawing.specs.Walk.{shapesPage, listDrawings}
+use Rattle.drawing.specs.inner.Walk.{shapesPage}
+use Rattle.lists.specs.inner.Walk.{listDrawings}
 use Rattle.drawing.proofs.Shapes.{length-shapes}
-use Rattle.drawing.proofs.Records.{Remaining, remaining-start, inside, remaining-end, decodes, lawful-record, remaining-next}
+use Rattle.lists.proofs.Left.{left-inside, left-whole}
+use Rattle.drawing.proofs.Records.{Remaining, remaining-start, remaining-end, lawful-record, remaining-next}
 use Rattle.drawing.proofs.draw_records.Statement.{statement}
 use Rattle.drawing.proofs.draw_records.Tie as tie
 
@@ -26,7 +28,7 @@ loop-holds : tie.Need-loop-holds Inv-loop μ-loop
 loop-holds c = (rw (c .first-settings .ensures) (remaining-start (c .before .before .before .args .w) (c .before .before .before .args .h) (now (c .before .before .before .args .list)) (now (c .before .before .before .args .page)) (c .before .before .before .pre)), refl)
 
 shared-slice-read-kind : tie.Need-shared-slice-read-kind Inv-loop μ-loop
-shared-slice-read-kind c = inside (c .before .loop .inv .0) .0
+shared-slice-read-kind c = left-inside (c .before .loop .inv .0 .left) .0
 
 same-length : tie.Need-same-length Inv-loop μ-loop
 same-length c = search needs
@@ -35,25 +37,25 @@ returns : tie.Need-returns Inv-loop μ-loop
 returns c = remaining-end (c .before .before .loop .inv .0) (c .if1 .taken)
 
 sub-decode : tie.Need-sub-decode Inv-loop μ-loop
-sub-decode c = let i = inside (c .before .before .loop .inv .0) in omega arith
+sub-decode c = let i = left-inside (c .before .before .loop .inv .0 .left) in omega arith
 
 part-decode-start : tie.Need-part-decode-start Inv-loop μ-loop
-part-decode-start c = let i = inside (c .before .before .loop .inv .0) in search needs
+part-decode-start c = let i = left-inside (c .before .before .loop .inv .0 .left) in search needs
 
 part-decode-end : tie.Need-part-decode-end Inv-loop μ-loop
-part-decode-end c = let i = inside (c .before .before .loop .inv .0) in search needs
+part-decode-end c = let i = left-inside (c .before .before .loop .inv .0 .left) in search needs
 
 decode-requires : tie.Need-decode-requires Inv-loop μ-loop
-decode-requires c κs = decodes (c .before .before .before .loop .inv .0)
+decode-requires c κs = left-whole (c .before .before .before .loop .inv .0 .left)
 
 draw-record-requires : tie.Need-draw-record-requires Inv-loop μ-loop
 draw-record-requires c κs = lawful-record (c .before .before .before .before .before .before .loop .inv .0) (c .before .before .decode .ensures)
 
 add-touched : tie.Need-add-touched Inv-loop μ-loop
 add-touched c =
-    let i = inside (c .before .before .before .before .before .before .before .before .before .loop .inv .0) in
+    let i = left-inside (c .before .before .before .before .before .before .before .before .before .loop .inv .0 .left) in
     let few = c .before .before .before .before .before .before .before .before .before .loop .inv .0 .few in
-    let most = c .before .before .before .before .before .before .before .before .before .loop .inv .0 .most in
+    let most = c .before .before .before .before .before .before .before .before .before .loop .inv .0 .left .most in
     let k = c .before .before .draw-record .ensures .2 in
     record { fits = omega arith }
 
@@ -65,14 +67,14 @@ kind-size-requires c κs = search needs
 
 add-place : tie.Need-add-place Inv-loop μ-loop
 add-place c =
-    let i = inside (c .before .before .before .before .before .before .before .before .before .before .before .loop .inv .0) in
-    let most = c .before .before .before .before .before .before .before .before .before .before .before .loop .inv .0 .most in
+    let i = left-inside (c .before .before .before .before .before .before .before .before .before .before .before .loop .inv .0 .left) in
+    let most = c .before .before .before .before .before .before .before .before .before .before .before .loop .inv .0 .left .most in
     let e = c .kind-size .ensures in
     record { fits = omega arith }
 
 loop-less : tie.Need-loop-less Inv-loop μ-loop
 loop-less c =
-    let i = inside (c .before .before .before .before .before .before .before .before .before .before .before .loop .inv .0) in
+    let i = left-inside (c .before .before .before .before .before .before .before .before .before .before .before .loop .inv .0 .left) in
     let e = c .kind-size .ensures in
     omega arith
 

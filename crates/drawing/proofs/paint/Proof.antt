@@ -1,6 +1,6 @@
 use mathlib.Core.Path.{ap, _∙_}
 use native.Mathlib.Omega.{arith}
-use Rattle.drawing.specs.Walk.{shapesPage}
+use Rattle.drawing.specs.inner.Walk.{shapesPage}
 use Rattle.drawing.proofs.Shapes.{page-painted}
 use borrow.Author.Needs.{needs}
 use Rattle.drawing.proofs.paint.Statement.{statement}

@@ -12,8 +12,8 @@ layout-of-requires c κs = search needs
 whole-of-requires : tie.Need-whole-of-requires
 whole-of-requires c κs = search needs
 
-scale-requires : tie.Need-scale-requires
-scale-requires c κs =
+reciprocal-requires : tie.Need-reciprocal-requires
+reciprocal-requires c κs =
     let a = c .before .before .before .args in
     let f = c .before .before .before .pre .0 .1 in
     rw (c .whole-of .ensures) (whole-fits (a .line .exact) (a .f .l) (a .f .s) (f .long) (f .short) (omega (arith, f .right)))
@@ -33,7 +33,7 @@ walk-clipped-requires c κs =
     let pre = c .before .before .before .before .before .before .pre in
     let laid = c .before .before .before .before .layout-of in
     let whole = c .before .before .before .whole-of in
-    let scaled = c .before .before .scale in
+    let scaled = c .before .before .reciprocal in
     let a = c .before .before .before .before .before .before .args in
     let start = c .before .first-step in
     (record { lawful = pre .0 .0; framed = pre .0 .1; laid = laid .ensures; d-is = whole .ensures; m-is = scaled .ensures }, standing-first (record { view = a .view; line = a .line; frame = a .f; layout = laid .result; level = a .level; d = whole .result; m = scaled .result }) (start .result) (a .from) (start .ensures .0) (start .ensures .1) (start .ensures .2) (pre .1 .0) (pre .1 .3), omega (arith, start .ensures .1, pre .1), record { right = pre .1 .2; last = pre .1 .4 })
@@ -43,14 +43,14 @@ walk-inside-requires c κs =
     let lower = c .before .before .before .walk-clipped in
     let pre = c .before .before .before .before .before .before .before .before .before .before .pre in
     let a = lower .ensures in
-    ((rw (lower .kept .0) (record { lawful = pre .0 .0; framed = pre .0 .1; laid = c .before .before .before .before .before .before .before .before .layout-of .ensures; d-is = c .before .before .before .before .before .before .before .whole-of .ensures; m-is = c .before .before .before .before .before .before .scale .ensures }), a .0 .standing, a .1, record { right = pre .1 .2; last = pre .1 .4 }), a .2)
+    ((rw (lower .kept .0) (record { lawful = pre .0 .0; framed = pre .0 .1; laid = c .before .before .before .before .before .before .before .before .layout-of .ensures; d-is = c .before .before .before .before .before .before .before .whole-of .ensures; m-is = c .before .before .before .before .before .before .reciprocal .ensures }), a .0 .standing, a .1, record { right = pre .1 .2; last = pre .1 .4 }), a .2)
 
 walk-clipped-requires-2 : tie.Need-walk-clipped-requires-2
 walk-clipped-requires-2 c κs =
     let inner = c .before .before .before .walk-inside in
     let pre = c .before .before .before .before .before .before .before .before .before .before .before .before .before .before .pre in
     let b = inner .ensures in
-    (rw (inner .kept .0, c .before .before .before .before .before .before .before .walk-clipped .kept .0) (record { lawful = pre .0 .0; framed = pre .0 .1; laid = c .before .before .before .before .before .before .before .before .before .before .before .before .layout-of .ensures; d-is = c .before .before .before .before .before .before .before .before .before .before .before .whole-of .ensures; m-is = c .before .before .before .before .before .before .before .before .before .before .scale .ensures }), b .0 .standing, b .1, record { right = pre .1 .2; last = pre .1 .4 })
+    (rw (inner .kept .0, c .before .before .before .before .before .before .before .walk-clipped .kept .0) (record { lawful = pre .0 .0; framed = pre .0 .1; laid = c .before .before .before .before .before .before .before .before .before .before .before .before .layout-of .ensures; d-is = c .before .before .before .before .before .before .before .before .before .before .before .whole-of .ensures; m-is = c .before .before .before .before .before .before .before .before .before .before .reciprocal .ensures }), b .0 .standing, b .1, record { right = pre .1 .2; last = pre .1 .4 })
 
 same-length : tie.Need-same-length
 same-length c = search needs
@@ -60,7 +60,7 @@ returns c =
     let a = c .before .before .before .before .before .before .before .before .before .before .before .before .before .before .before .before .before .args in
     let laid = c .before .before .before .before .before .before .before .before .before .before .before .before .before .before .before .layout-of in
     let whole = c .before .before .before .before .before .before .before .before .before .before .before .before .before .before .whole-of in
-    let scaled = c .before .before .before .before .before .before .before .before .before .before .before .before .before .scale in
+    let scaled = c .before .before .before .before .before .before .before .before .before .before .before .before .before .reciprocal in
     let start = c .before .before .before .before .before .before .before .before .before .before .before .before .first-step in
     let upper = c .before .before .walk-clipped2 in
     let pre = c .before .before .before .before .before .before .before .before .before .before .before .before .before .before .before .before .before .pre in
@@ -73,7 +73,7 @@ draw-columns-spec =
     (tie.spec
     layout-of-requires
     whole-of-requires
-    scale-requires
+    reciprocal-requires
     first-step-requires
     walk-clipped-requires
     walk-inside-requires

@@ -1,10 +1,10 @@
 use mathlib.Core.Bool.{cond}
 use native.Mathlib.Omega.{arith}
 use lib.ListN.{length}
-use Rattle.page.specs.Page.{inView}
+use Rattle.page.specs.inner.Paint.{inView}
 use Rattle.page.proofs.Clip.{clip-zero}
 use Rattle.page.proofs.Paint.{drawn-none, drawn-ext}
-use Rattle.lines.specs.Layout.{lineOn, lineInk}
+use Rattle.lines.specs.inner.Layout.{lineOn, lineInk}
 use Rattle.lines.proofs.Strip.{strip-whole, line-beyond, either-side}
 use borrow.Author.Needs.{needs}
 use Rattle.lines.proofs.draw_line.Statement.{statement}

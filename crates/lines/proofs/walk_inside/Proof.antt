@@ -2,7 +2,7 @@ use mathlib.Core.Path.{_≡_, refl, sym, _∙_}
 use Prim.Native.Nat.{_-_, _≤_, _<_}
 use native.Mathlib.Omega.{arith}
 use lib.ListN.{length}
-use Rattle.lines.specs.Stroke.{Extended}
+use Rattle.lines.specs.inner.Stroke.{Extended}
 use Rattle.lines.proofs.Walk.{extended-none, extended-join, within-next, high-least, goes}
 use Rattle.lines.proofs.walk_inside.Statement.{statement}
 use Rattle.lines.proofs.walk_inside.Tie as tie

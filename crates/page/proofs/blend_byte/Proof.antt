@@ -1,6 +1,6 @@
 use mathlib.Core.Path.{_∙_}
 use native.Mathlib.Omega.{arith}
-use Rattle.page.proofs.Blend.{blend-quotient, quotient-byte, scale-fits, near-enough}
+use Rattle.page.proofs.Blend.{blend-quotient, quotient-byte, reciprocal-fits, near-enough}
 use borrow.Author.Needs.{needs}
 use Rattle.page.proofs.blend_byte.Statement.{statement}
 use Rattle.page.proofs.blend_byte.Tie as tie
@@ -16,7 +16,7 @@ near-quotient-requires c κs =
     let s = c .before .before in
     let x = c .before .dividend .ensures .most in
     let m = s .pre .1 in
-    (omega arith, scale-fits _ (s .args .d) _ x (omega arith) m, omega arith, near-enough _ (s .args .d) _ x (omega arith) m)
+    (omega arith, reciprocal-fits _ (s .args .d) _ x (omega arith) m, omega arith, near-enough _ (s .args .d) _ x (omega arith) m)
 
 cast-result : tie.Need-cast-result
 cast-result c = record { fits = rw (c .near-quotient .ensures) (quotient-byte _ _ (omega arith) (c .before .before .dividend .ensures .most)) }
@@ -27,7 +27,7 @@ mul-quotient c = search needs
 quotient-requires : tie.Need-quotient-requires
 quotient-requires c κs =
     let s = c .before .before in
-    (omega arith, omega arith, scale-fits _ (s .args .d) (s .args .m) (c .before .dividend .ensures .most) (omega arith) (s .pre .1))
+    (omega arith, omega arith, reciprocal-fits _ (s .args .d) (s .args .m) (c .before .dividend .ensures .most) (omega arith) (s .pre .1))
 
 cast-result-2 : tie.Need-cast-result-2
 cast-result-2 c = record { fits = rw (c .quotient .ensures) (quotient-byte _ _ (omega arith) (c .before .before .dividend .ensures .most)) }

@@ -1,4 +1,4 @@
--- The quotient that the scale gives is handed back only where it is tested.
+-- The quotient that the reciprocal gives is handed back only where it is tested.
 use mathlib.Core.Path.{sym}
 use Prim.Native.Nat.{_*_, _/_, _≤_}
 use native.Mathlib.Nat.{mul-le-mul-right, div-eq-of-lt-le}

@@ -49,7 +49,7 @@ use Rattle.lists.specs.declared.format.Header.{Header}
 use Rattle.lists.specs.Write.{headerList}
 use Rattle.lists.proofs.Writes.{header-length, record-length}
 use Rattle.writer.specs.declared.Pair.{Pair}
-use Rattle.writer.specs.Writer.{headed, recorded, first, second, pairList}
+use Rattle.writer.specs.Writer.{headed, recorded, headerFirst, recordSecond, pairList}
 use Rattle.writer.proofs.Writer as T
 use Rattle.writer.proofs.Writer.Laws as T′
 use Rattle.lists.proofs.format.Header as HE
@@ -74,7 +74,7 @@ use Rattle.writer.proofs.write_pair.Code as code
 
 -- a header and a record leave the list as long as it is
 pair-length : (l : List ℕ) (d : Header) (r : Record) → length (pairList l d r) ≡ length l
-pair-length l d r = record-length (headerList l d) (first l d .place) (first l d .w) (first l d .h) r ∙ header-length l d
+pair-length l d r = record-length (headerList l d) (headerFirst l d .place) (headerFirst l d .w) (headerFirst l d .h) r ∙ header-length l d
 
 abbrev stayed : Stays (write-pair.ended .signature .params) (write-pair.ended .kept)
 stayed = (stay-slice (0 ∷ []) tt (plain (λ _. u8)), (stay-none (λ _. HE.the-row) yes, (stay-none (λ _. E.the-row) yes, tt)))
@@ -168,7 +168,7 @@ module _ {M : Type 1} (𝓤 : URA M) (H : Heap 𝓤) (A : Atoms 𝓤) (W : Given
   abbrev out-val : ℕ → ℕ → Val
   out-val r t = vstruct (vcons (vint w8 r) (vcons (vint w8 t) (vcons (vint w64 (h₂ .place)) vnil)))
 
-  exits : (r t : ℕ) → r ≡ first ys header .code → t ≡ second ys header rec .code → r < 2 ^ 8 → t < 2 ^ 8 → h₂ .place < 2 ^ 64
+  exits : (r t : ℕ) → r ≡ headerFirst ys header .refusal → t ≡ recordSecond ys header rec .refusal → r < 2 ^ 8 → t < 2 ^ 8 → h₂ .place < 2 ^ 64
       → ent 𝓤 (sep 𝓤 (sem 𝓤 H A (MutSlice (named 0) κ u8 .own (x zs) (s ∷ []))) (A .lft κ q)) (Post (out-val r t))
   exits r t e f r-fits t-fits place-fits =
       qed W (‵ (MutSlice (named 0) κ u8 .own (x zs) (s ∷ [])) ∷ ‵ (flft κ q) ∷ []) ∵
@@ -201,8 +201,8 @@ module _ {M : Type 1} (𝓤 : URA M) (H : Heap 𝓤) (A : Atoms 𝓤) (W : Given
         move ! (0 ∷ 2 ∷ []) $ use2 W (raw (HeaderC 𝓤 H A at-mem run .pre (to-header l₄ ν δ))) (goes-header l₄ ν δ) $
         calls-at ! fm (HeaderC 𝓤 H A at-mem run) known-header (to-header l₄ ν δ) (and-then ! (load ! (from ! (stop !)) (look ! 8 refl)) (and-then ! (load ! (from ! (stop !)) (look ! 21 refl)) (no-more !))) (λ w.
         use1 W (later (some (λ (r : ℕ). (Tokens 𝓤 H A W R κ q l₄ ν ⊛ ‵ (u8 .own r (w ∷ []))) ⊛ raw (ensured 𝓤 H A write-header.ended (write-header.clauses 𝓤 H A at-mem run) (ν ∷ κ, (κ, tt)) (lent l₄ δ h₀, (header, tt)) tt r)))) (id⊢ 𝓤 _) $ await ! tt $ pick ! (λ r.
-        split ! $ move ! (1 ∷ []) $ use1 W (some (λ (ws : Writer × (Unit {0} × Unit {0})). ‵ (lasts write-header.ended (ν ∷ κ, (κ, tt)) (lent l₄ δ h₀, (header, tt)) ws) ⊛ raw (fact 𝓤 ((r ≡ first ys header .code) × (ws .0 ≡ h₁))))) (id⊢ 𝓤 _) $ pick ! (λ ws.
-        split ! $ move ! (1 ∷ []) $ heard ! ((r ≡ first ys header .code) × (ws .0 ≡ h₁)) (λ e. fsplit ! $ rewrite ! 0 (λ (z : Writer). ‵ (fres δ (R .coded .code z))) (e .1) refl $
+        split ! $ move ! (1 ∷ []) $ use1 W (some (λ (ws : Writer × (Unit {0} × Unit {0})). ‵ (lasts write-header.ended (ν ∷ κ, (κ, tt)) (lent l₄ δ h₀, (header, tt)) ws) ⊛ raw (fact 𝓤 ((r ≡ headerFirst ys header .refusal) × (ws .0 ≡ h₁))))) (id⊢ 𝓤 _) $ pick ! (λ ws.
+        split ! $ move ! (1 ∷ []) $ heard ! ((r ≡ headerFirst ys header .refusal) × (ws .0 ≡ h₁)) (λ e. fsplit ! $ rewrite ! 0 (λ (z : Writer). ‵ (fres δ (R .coded .code z))) (e .1) refl $
         move ! (2 ∷ []) $ split ! $ move ! (1 ∷ []) $ peeks ! u8 (Is u8) (shows 𝓤 H A u8) r (w ∷ []) (λ is.
         land ! (from ! (stop !)) (init ! 19 refl (uint-lawful 𝓤 H A W w8 .typed r _ is .0)) $ rewrite ! 19 (λ (z : Val). ‵ (fat fullShare (tyInt w8) l₅ 0 z)) (ap only (is .0)) refl $
         -- take it back, and lend it for the record
@@ -212,8 +212,8 @@ module _ {M : Type 1} (𝓤 : URA M) (H : Heap 𝓤) (A : Atoms 𝓤) (W : Given
         move ! (0 ∷ 2 ∷ []) $ use2 W (raw (RecordC 𝓤 H A at-mem run .pre (to-record l₄ ν′ δ′))) (goes-record l₄ ν′ δ′) $
         calls-at ! fm (RecordC 𝓤 H A at-mem run) known-record (to-record l₄ ν′ δ′) (and-then ! (load ! (from ! (stop !)) (look ! 8 refl)) (and-then ! (load ! (from ! (stop !)) (look ! 21 refl)) (no-more !))) (λ w′.
         use1 W (later (some (λ (t : ℕ). (Tokens 𝓤 H A W R κ q l₄ ν′ ⊛ ‵ (u8 .own t (w′ ∷ []))) ⊛ raw (ensured 𝓤 H A write-record.ended (write-record.clauses 𝓤 H A at-mem run) (ν′ ∷ κ, (κ, tt)) (lent l₄ δ′ h₁, (rec, tt)) tt t)))) (id⊢ 𝓤 _) $ await ! tt $ pick ! (λ t.
-        split ! $ move ! (1 ∷ []) $ use1 W (some (λ (ws : Writer × (Unit {0} × Unit {0})). ‵ (lasts write-record.ended (ν′ ∷ κ, (κ, tt)) (lent l₄ δ′ h₁, (rec, tt)) ws) ⊛ raw (fact 𝓤 ((t ≡ second ys header rec .code) × (ws .0 ≡ h₂))))) (id⊢ 𝓤 _) $ pick ! (λ ws′.
-        split ! $ move ! (1 ∷ []) $ heard ! ((t ≡ second ys header rec .code) × (ws′ .0 ≡ h₂)) (λ f. fsplit ! $ rewrite ! 0 (λ (z : Writer). ‵ (fres δ′ (R .coded .code z))) (f .1) refl $
+        split ! $ move ! (1 ∷ []) $ use1 W (some (λ (ws : Writer × (Unit {0} × Unit {0})). ‵ (lasts write-record.ended (ν′ ∷ κ, (κ, tt)) (lent l₄ δ′ h₁, (rec, tt)) ws) ⊛ raw (fact 𝓤 ((t ≡ recordSecond ys header rec .refusal) × (ws .0 ≡ h₂))))) (id⊢ 𝓤 _) $ pick ! (λ ws′.
+        split ! $ move ! (1 ∷ []) $ heard ! ((t ≡ recordSecond ys header rec .refusal) × (ws′ .0 ≡ h₂)) (λ f. fsplit ! $ rewrite ! 0 (λ (z : Writer). ‵ (fres δ′ (R .coded .code z))) (f .1) refl $
         move ! (2 ∷ []) $ split ! $ move ! (1 ∷ []) $ peeks ! u8 (Is u8) (shows 𝓤 H A u8) t (w′ ∷ []) (λ is′.
         land ! (from ! (stop !)) (init ! 19 refl (uint-lawful 𝓤 H A W w8 .typed t _ is′ .0)) $ rewrite ! 19 (λ (z : Val). ‵ (fat fullShare (tyInt w8) l₆ 0 z)) (ap only (is′ .0)) refl $
         -- take it back, and read its place

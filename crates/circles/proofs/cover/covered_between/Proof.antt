@@ -2,7 +2,7 @@ use mathlib.Core.Path.{ap₂}
 use Prim.Native.Nat.{_-_}
 use native.Mathlib.Omega.{arith}
 use Rattle.coverage.proofs.Chord.{chords-rise}
-use Rattle.circles.specs.Row.{at, between}
+use Rattle.circles.specs.inner.Row.{at, between}
 use Rattle.circles.proofs.Chords.{chords-far}
 use borrow.Author.Needs.{needs}
 use Rattle.circles.proofs.cover.covered_between.Statement.{statement}

@@ -5,7 +5,7 @@ use native.Mathlib.Omega.{arith}
 use borrow.Author.Tests.{leb-true}
 use borrow.Author.Needs.{needs}
 use Rattle.coverage.proofs.Chord.{chords-le}
-use Rattle.circles.specs.Row.{at}
+use Rattle.circles.specs.inner.Row.{at}
 use Rattle.circles.proofs.Chords.{chords-falls, chords-whole}
 use Rattle.circles.proofs.cover.whole_width.Statement.{statement}
 use Rattle.circles.proofs.cover.whole_width.Tie as tie

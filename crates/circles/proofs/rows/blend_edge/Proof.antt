@@ -7,12 +7,14 @@ use lib.ListN.{length, getD, set, length-set}
 use borrow.Author.Needs.{needs}
 use Rattle.numbers.specs.Sum.{sumTo}
 use Rattle.numbers.proofs.Sum.{sum-none, sum-more, sum-le}
-use Rattle.page.specs.Blend.{blend, inkOf}
-use Rattle.page.specs.Page.{over, dot, touch}
+use Rattle.page.specs.Blend.{blend}
+use Rattle.page.specs.inner.Ink.{inkOf}
+use Rattle.page.specs.Page.{over}
+use Rattle.page.specs.inner.Paint.{dot, touch}
 use Rattle.page.proofs.Over.{upTo, upTo-none, upTo-store, upTo-read, upTo-all}
 use Rattle.page.proofs.Paint.{dot-blend}
-use Rattle.coverage.specs.Circle.{apart}
-use Rattle.circles.specs.Row.{at, between}
+use Rattle.coverage.specs.inner.Circle.{apart}
+use Rattle.circles.specs.inner.Row.{at, between}
 use Rattle.circles.proofs.rows.blend_edge.Statement.{statement}
 use Rattle.circles.proofs.rows.blend_edge.Tie as tie
 

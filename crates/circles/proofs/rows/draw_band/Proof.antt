@@ -2,7 +2,7 @@
 use Prim.Native.Nat.{_+_, _≤_}
 use native.Mathlib.Omega.{arith}
 use Rattle.page.proofs.Paint.{drawn-count}
-use Rattle.circles.specs.Row.{at, betweenOn}
+use Rattle.circles.specs.inner.Row.{at, betweenOn}
 use Rattle.circles.proofs.Row.{ready-after, drawn-band}
 use borrow.Author.Needs.{needs}
 use Rattle.circles.proofs.rows.draw_band.Statement.{statement}

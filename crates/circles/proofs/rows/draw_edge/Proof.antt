@@ -4,9 +4,9 @@ use Prim.Native.Nat.{_+_, _-_, _*_, _≤_}
 use native.Mathlib.Omega.{arith}
 use lib.ListN.{length, take, drop}
 use borrow.Rule.Slice.PartMut.{mid-len}
-use Rattle.page.specs.Blend.{inkOf}
+use Rattle.page.specs.inner.Ink.{inkOf}
 use Rattle.page.proofs.Paint.{row-end, drawn-stretch}
-use Rattle.circles.specs.Row.{at, betweenOn}
+use Rattle.circles.specs.inner.Row.{at, betweenOn}
 use borrow.Author.Needs.{needs}
 use Rattle.circles.proofs.rows.draw_edge.Statement.{statement}
 use Rattle.circles.proofs.rows.draw_edge.Tie as tie

@@ -2,8 +2,8 @@
 use Prim.Native.Nat.{_+_}
 use native.Mathlib.Omega.{arith}
 use Rattle.page.proofs.Paint.{drawn-count}
-use Rattle.coverage.specs.Circle.{apart}
-use Rattle.circles.specs.Row.{at, Measured}
+use Rattle.coverage.specs.inner.Circle.{apart}
+use Rattle.circles.specs.inner.Row.{at, Measured}
 use Rattle.circles.proofs.Row.{ready-after, solid-band, left-band, right-band, solid-row, hollow-row}
 use borrow.Author.Needs.{needs}
 use Rattle.circles.proofs.rows.draw_row.Statement.{statement}

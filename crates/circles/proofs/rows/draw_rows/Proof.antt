@@ -5,7 +5,7 @@ use native.Mathlib.Omega.{arith}
 use borrow.Author.Needs.{needs}
 use Rattle.page.proofs.Clip.{clip-zero, clip-rows}
 use Rattle.page.proofs.Paint.{drawn-none, drawn-join, drawn-length, drawn-count}
-use Rattle.circles.specs.Row.{at, RingDrawn}
+use Rattle.circles.specs.inner.Row.{at, RingDrawn}
 use Rattle.circles.proofs.Row.{ready-after}
 use Rattle.circles.proofs.rows.draw_rows.Statement.{statement}
 use Rattle.circles.proofs.rows.draw_rows.Tie as tie

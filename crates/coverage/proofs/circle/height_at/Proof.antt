@@ -2,7 +2,8 @@ use mathlib.Core.Path.{sym}
 use Prim.Native.Nat.{_*_, _-_, _<_}
 use native.Mathlib.Omega.{arith}
 use Rattle.numbers.proofs.Order.{square-le}
-use Rattle.coverage.specs.Circle.{heightOf, Around}
+use Rattle.coverage.specs.Circle.{heightOf}
+use Rattle.coverage.specs.inner.Circle.{Around}
 use Rattle.coverage.proofs.Height.{height-beyond}
 use Rattle.coverage.proofs.Chord.{around-start}
 use Rattle.coverage.proofs.circle.height_at.Statement.{statement}

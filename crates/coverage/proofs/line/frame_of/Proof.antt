@@ -1,6 +1,6 @@
 use Prim.Native.Nat.{_≤_, _<_}
-use Rattle.numbers.specs.Order.{dist}
-use Rattle.shapes.specs.Offsets.{endsOf}
+use Rattle.numbers.specs.inner.Order.{dist}
+use Rattle.shapes.specs.inner.Offsets.{endsOf}
 use Rattle.shapes.proofs.Limits.{LawfulLine, line-lawful}
 use Rattle.coverage.proofs.Framing.{flat-forward, flat-backward, upright-forward, upright-backward}
 use borrow.Author.Needs.{needs}

@@ -1,6 +1,6 @@
 use mathlib.Core.Path.{sym}
 use native.Mathlib.Omega.{arith}
-use Rattle.coverage.specs.Rows.{riseOf}
+use Rattle.coverage.specs.inner.Rows.{riseOf}
 use Rattle.coverage.proofs.Closed.{rise-level, rise-slanted}
 use borrow.Author.Needs.{needs}
 use Rattle.coverage.proofs.line.rise.Statement.{statement}

@@ -1,5 +1,5 @@
 use mathlib.Core.Path.{ap, _∙_}
-use Rattle.greystroke.specs.Whole.{listed}
+use Rattle.greystroke.specs.Whole.{listAnswered}
 use borrow.Author.Needs.{needs}
 use Rattle.greystroke.proofs.whole.greystroke_draw_list.Statement.{statement}
 use Rattle.greystroke.proofs.whole.greystroke_draw_list.Tie as tie
@@ -16,7 +16,7 @@ same-length c = search needs
 returns : tie.Need-returns
 returns c =
     let e = c .before .before .before .draw-list .ensures in
-    (c .list-answer .ensures ∙ ap listed (e .0), (e .1 .0, (e .1 .1 .0, c .list-answer .ensures ∙ ap listed (e .1 .1 .1))))
+    (c .list-answer .ensures ∙ ap listAnswered (e .0), (e .1 .0, (e .1 .1 .0, c .list-answer .ensures ∙ ap listAnswered (e .1 .1 .1))))
 
 pub greystroke-draw-list-spec : {M : Type 1} → statement M
 greystroke-draw-list-spec =

@@ -1,4 +1,4 @@
-use Rattle.greystroke.specs.Whole.{listed}
+use Rattle.greystroke.specs.Whole.{listAnswered}
 use borrow.Author.Needs.{needs}
 use Rattle.greystroke.proofs.whole.list_answer.Statement.{statement}
 use Rattle.greystroke.proofs.whole.list_answer.Tie as tie
@@ -19,11 +19,11 @@ cast-t10 : tie.Need-cast-t10
 cast-t10 c = search needs
 
 returns : tie.Need-returns
-unfolding listed
+unfolding listAnswered
 returns c = cc
 
 returns-2 : tie.Need-returns-2
-unfolding listed
+unfolding listAnswered
 returns-2 c = cc
 
 pub list-answer-spec : {M : Type 1} → statement M

@@ -2,7 +2,7 @@ use native.Mathlib.Omega.{arith}
 use mathlib.Core.Path.{sym, _∙_, ap}
 use Prim.Native.Nat.{_-_}
 use lib.ListN.{length}
-use Rattle.page.specs.Blend.{inkOf}
+use Rattle.page.specs.inner.Ink.{inkOf}
 use Rattle.lines.proofs.Dots.{length-spotted}
 use borrow.Author.Needs.{needs}
 use Rattle.lines.proofs.step.draw_column.Statement.{statement}

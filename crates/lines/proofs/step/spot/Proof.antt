@@ -1,7 +1,7 @@
 use mathlib.Core.Path.{_≡_, _∙_}
 use Prim.Native.Nat.{_-_, _<_}
 use native.Mathlib.Omega.{arith}
-use Rattle.page.specs.Blend.{inkOf}
+use Rattle.page.specs.inner.Ink.{inkOf}
 use Rattle.lines.proofs.Dots.{spotted-none, spotted-blend}
 use borrow.Author.Needs.{needs}
 use Rattle.lines.proofs.step.spot.Statement.{statement}

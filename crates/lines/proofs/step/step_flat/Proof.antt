@@ -1,8 +1,8 @@
 use mathlib.Core.Path.{refl}
 use Prim.Native.Nat.{_-_}
 use native.Mathlib.Omega.{arith}
-use Rattle.page.specs.Blend.{inkOf}
-use Rattle.lines.specs.Layout.{raised}
+use Rattle.page.specs.inner.Ink.{inkOf}
+use Rattle.lines.specs.inner.Layout.{raised}
 use Rattle.lines.proofs.Dots.{spotted-none}
 use Rattle.lines.proofs.Steps.{covers, reaches, advances, middle-byte, lower-byte, flat-upper, inner-stepped}
 use borrow.Author.Needs.{needs}

@@ -21,28 +21,28 @@ loop-holds c =
     let args = c .before .args in
     reached-start (args .header) (now (args .list)) headerSize (c .before .pre)
 
-sub-read-fault : tie.Need-sub-read-fault Inv-loop μ-loop
-sub-read-fault c = c .loop .inv .inside
+sub-read-refusal : tie.Need-sub-read-refusal Inv-loop μ-loop
+sub-read-refusal c = c .loop .inv .inside
 
-part-read-fault-start : tie.Need-part-read-fault-start Inv-loop μ-loop
-part-read-fault-start c = search needs
+part-read-refusal-start : tie.Need-part-read-refusal-start Inv-loop μ-loop
+part-read-refusal-start c = search needs
 
-part-read-fault-end : tie.Need-part-read-fault-end Inv-loop μ-loop
-part-read-fault-end c = search needs
+part-read-refusal-end : tie.Need-part-read-refusal-end Inv-loop μ-loop
+part-read-refusal-end c = search needs
 
-read-fault-requires : tie.Need-read-fault-requires Inv-loop μ-loop
-read-fault-requires c κs = search needs
+read-refusal-requires : tie.Need-read-refusal-requires Inv-loop μ-loop
+read-refusal-requires c κs = search needs
 
 returns : tie.Need-returns Inv-loop μ-loop
 returns c =
     let loop = c .before .before .before .loop in
-    refused-here (loop .inv) (c .before .read-fault .ensures) (c .if1 .taken)
+    refused-here (loop .inv) (c .before .read-refusal .ensures) (c .if1 .taken)
 
 shared-slice-read-kind : tie.Need-shared-slice-read-kind Inv-loop μ-loop
 shared-slice-read-kind c =
     let loop = c .before .before .before .before .loop in
-    let read-fault = c .before .before .read-fault in
-    let next = next-inside (loop .inv) (read-fault .ensures) (c .before .if1 .left) refl in omega arith
+    let read-refusal = c .before .before .read-refusal in
+    let next = next-inside (loop .inv) (read-refusal .ensures) (c .before .if1 .left) refl in omega arith
 
 kind-size-requires : tie.Need-kind-size-requires Inv-loop μ-loop
 kind-size-requires c κs = search needs
@@ -50,38 +50,38 @@ kind-size-requires c κs = search needs
 add-place : tie.Need-add-place Inv-loop μ-loop
 add-place c =
     let loop = c .before .before .before .before .before .loop in
-    let read-fault = c .before .before .before .read-fault in
-    let next = next-inside (loop .inv) (read-fault .ensures) (c .before .before .if1 .left) (c .kind-size .ensures) in omega arith
+    let read-refusal = c .before .before .before .read-refusal in
+    let next = next-inside (loop .inv) (read-refusal .ensures) (c .before .before .if1 .left) (c .kind-size .ensures) in omega arith
 
 returns-2 : tie.Need-returns-2 Inv-loop μ-loop
 returns-2 c =
     let loop = c .before .before .before .before .before .before .before .loop in
-    let read-fault = c .before .before .before .before .before .read-fault in
+    let read-refusal = c .before .before .before .before .before .read-refusal in
     let if1 = c .before .before .before .before .if1 in
     let kind-size = c .before .before .kind-size in
-    surplus (loop .inv) (read-fault .ensures) (if1 .left) (kind-size .ensures) (c .before .if2 .taken) (c .if3 .taken)
+    surplus (loop .inv) (read-refusal .ensures) (if1 .left) (kind-size .ensures) (c .before .if2 .taken) (c .if3 .taken)
 
 returns-3 : tie.Need-returns-3 Inv-loop μ-loop
 returns-3 c =
     let loop = c .before .before .before .before .before .before .before .loop in
-    let read-fault = c .before .before .before .before .before .read-fault in
+    let read-refusal = c .before .before .before .before .before .read-refusal in
     let if1 = c .before .before .before .before .if1 in
     let kind-size = c .before .before .kind-size in
-    accepted-here (loop .inv) (read-fault .ensures) (if1 .left) (kind-size .ensures) (c .before .if2 .taken) (c .if3 .left)
+    accepted-here (loop .inv) (read-refusal .ensures) (if1 .left) (kind-size .ensures) (c .before .if2 .taken) (c .if3 .left)
 
 loop-less : tie.Need-loop-less Inv-loop μ-loop
 loop-less c =
     let loop = c .before .before .before .before .before .before .loop in
-    let read-fault = c .before .before .before .before .read-fault in
+    let read-refusal = c .before .before .before .before .read-refusal in
     let if1 = c .before .before .before .if1 in
-    let next = next-inside (loop .inv) (read-fault .ensures) (if1 .left) (c .before .kind-size .ensures) in omega arith
+    let next = next-inside (loop .inv) (read-refusal .ensures) (if1 .left) (c .before .kind-size .ensures) in omega arith
 
 loop-again : tie.Need-loop-again Inv-loop μ-loop
 loop-again c =
     let loop = c .before .before .before .before .before .before .loop in
-    let read-fault = c .before .before .before .before .read-fault in
+    let read-refusal = c .before .before .before .before .read-refusal in
     let if1 = c .before .before .before .if1 in
-    next-reached (loop .inv) (read-fault .ensures) (if1 .left) (c .before .kind-size .ensures) (c .if2 .left)
+    next-reached (loop .inv) (read-refusal .ensures) (if1 .left) (c .before .kind-size .ensures) (c .if2 .left)
 
 pub check-records-spec : {M : Type 1} → statement M
 check-records-spec =
@@ -90,10 +90,10 @@ check-records-spec =
     Inv-loop
     μ-loop
     loop-holds
-    sub-read-fault
-    part-read-fault-start
-    part-read-fault-end
-    read-fault-requires
+    sub-read-refusal
+    part-read-refusal-start
+    part-read-refusal-end
+    read-refusal-requires
     returns
     shared-slice-read-kind
     kind-size-requires

@@ -1,5 +1,6 @@
 use native.Mathlib.Omega.{arith}
-use Rattle.lists.specs.Format.{kindOf, fieldsOf, OneByte}
+use Rattle.lists.specs.Format.{kindOf, fieldsOf}
+use Rattle.lists.specs.inner.Record.{OneByte}
 use Rattle.lists.proofs.Bytes.{kept}
 use Rattle.lists.proofs.format.disc_bytes.Statement.{statement}
 use Rattle.lists.proofs.format.disc_bytes.Tie as tie

@@ -1,4 +1,5 @@
-use Rattle.lists.specs.Format.{kindOf, fieldsOf, OneByte}
+use Rattle.lists.specs.Format.{kindOf, fieldsOf}
+use Rattle.lists.specs.inner.Record.{OneByte}
 use Rattle.lists.proofs.Bytes.{kept}
 use Rattle.lists.proofs.format.ring_bytes.Statement.{statement}
 use Rattle.lists.proofs.format.ring_bytes.Tie as tie

@@ -4,27 +4,27 @@ use borrow.Author.Needs.{needs}
 use borrow.Author.Tests.{lt-ltb, le-ltb}
 use denote.Ref.{now}
 use Rattle.lists.specs.Read.{readingOf}
-use Rattle.lists.proofs.Faults.{readable}
+use Rattle.lists.proofs.Refusals.{readable}
 use Rattle.lists.proofs.read.read_record.Statement.{statement}
 use Rattle.lists.proofs.read.read_record.Tie as tie
 
-read-fault-requires : tie.Need-read-fault-requires
-read-fault-requires c κs = search needs
+read-refusal-requires : tie.Need-read-refusal-requires
+read-refusal-requires c κs = search needs
 
 returns : tie.Need-returns
 unfolding readingOf
-returns c = simp (← c .before .read-fault .ensures, lt-ltb _ _ (c .if1 .taken))
+returns c = simp (← c .before .read-refusal .ensures, lt-ltb _ _ (c .if1 .taken))
 
 decode-requires : tie.Need-decode-requires
 decode-requires c κs =
     let a = c .before .before .before .args in
-    readable (a .w) (a .h) (now (a .list)) (sym (c .before .read-fault .ensures) ∙ omega arith) .whole
+    readable (a .w) (a .h) (now (a .list)) (sym (c .before .read-refusal .ensures) ∙ omega arith) .whole
 
 returns-2 : tie.Need-returns-2
 unfolding readingOf
 returns-2 c =
-    let read-fault = c .before .before .read-fault in
-    simp (← read-fault .ensures, le-ltb _ _ (c .before .if1 .left), c .decode .ensures)
+    let read-refusal = c .before .before .read-refusal in
+    simp (← read-refusal .ensures, le-ltb _ _ (c .before .if1 .left), c .decode .ensures)
 
 pub read-record-spec : {M : Type 1} → statement M
-read-record-spec = tie.close (tie.spec read-fault-requires returns decode-requires returns-2)
+read-record-spec = tie.close (tie.spec read-refusal-requires returns decode-requires returns-2)

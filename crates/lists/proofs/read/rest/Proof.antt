@@ -8,23 +8,23 @@ use lib.ListN.{length, drop, length-drop}
 use lib.Seq.{take-all}
 use denote.Ref.{now}
 use Rattle.lists.specs.Format.{sizeAt}
-use Rattle.lists.specs.Read.{restOf}
-use Rattle.lists.proofs.Faults.{readable}
+use Rattle.lists.specs.Read.{pastRecord}
+use Rattle.lists.proofs.Refusals.{readable}
 use Rattle.lists.proofs.read.rest.Statement.{statement}
 use Rattle.lists.proofs.read.rest.Tie as tie
 
-read-fault-requires : tie.Need-read-fault-requires
-read-fault-requires c κs = search needs
+read-refusal-requires : tie.Need-read-refusal-requires
+read-refusal-requires c κs = search needs
 
 returns : tie.Need-returns
-unfolding restOf
-returns c = simp (← c .before .read-fault .ensures, lt-ltb _ _ (c .if1 .taken))
+unfolding pastRecord
+returns c = simp (← c .before .read-refusal .ensures, lt-ltb _ _ (c .if1 .taken))
 
 shared-slice-read-kind-size : tie.Need-shared-slice-read-kind-size
 shared-slice-read-kind-size c =
-    let read-fault = c .before .before .read-fault in
+    let read-refusal = c .before .before .read-refusal in
     let a = c .before .before .before .before .args in
-    let whole = readable (a .w) (a .h) (now (a .list)) (sym (read-fault .ensures) ∙ omega arith) .whole in
+    let whole = readable (a .w) (a .h) (now (a .list)) (sym (read-refusal .ensures) ∙ omega arith) .whole in
     omega arith
 
 kind-size-requires : tie.Need-kind-size-requires
@@ -32,34 +32,34 @@ kind-size-requires c κs = search needs
 
 sub-result : tie.Need-sub-result
 sub-result c =
-    let read-fault = c .before .before .before .read-fault in
+    let read-refusal = c .before .before .before .read-refusal in
     let a = c .before .before .before .before .before .args in
-    rw (c .kind-size .ensures) (readable (a .w) (a .h) (now (a .list)) (sym (read-fault .ensures) ∙ omega arith) .whole .fits)
+    rw (c .kind-size .ensures) (readable (a .w) (a .h) (now (a .list)) (sym (read-refusal .ensures) ∙ omega arith) .whole .fits)
 
 part-result-start : tie.Need-part-result-start
 part-result-start c =
-    let read-fault = c .before .before .before .read-fault in
+    let read-refusal = c .before .before .before .read-refusal in
     let a = c .before .before .before .before .before .args in
-    rw (c .kind-size .ensures) (readable (a .w) (a .h) (now (a .list)) (sym (read-fault .ensures) ∙ omega arith) .whole .fits)
+    rw (c .kind-size .ensures) (readable (a .w) (a .h) (now (a .list)) (sym (read-refusal .ensures) ∙ omega arith) .whole .fits)
 
 part-result-end : tie.Need-part-result-end
 part-result-end c = search needs
 
 returns-2 : tie.Need-returns-2
-unfolding restOf
+unfolding pastRecord
 returns-2 c =
     let args = c .before .before .before .before .before .before .args in
-    let read-fault = c .before .before .before .before .read-fault in
+    let read-refusal = c .before .before .before .before .read-refusal in
     let if1 = c .before .before .before .if1 in
     let s = now (args .list) in
-    rw (c .before .kind-size .ensures, ← read-fault .ensures, le-ltb _ _ (if1 .left))
+    rw (c .before .kind-size .ensures, ← read-refusal .ensures, le-ltb _ _ (if1 .left))
     (take-all (length s - sizeAt s) (drop (sizeAt s) s) (le-of-eq (length-drop (sizeAt s) s)))
 
 pub rest-spec : {M : Type 1} → statement M
 rest-spec =
     tie.close
     (tie.spec
-    read-fault-requires
+    read-refusal-requires
     returns
     shared-slice-read-kind-size
     kind-size-requires

@@ -8,8 +8,8 @@ use Rattle.lists.proofs.Writes.{header-refused, header-done, header-roo
 use Rattle.lists.proofs.write.write_header.Statement.{statement}
 use Rattle.lists.proofs.write.write_header.Tie as tie
 
-header-write-fault-requires : tie.Need-header-write-fault-requires
-header-write-fault-requires c κs = search needs
+header-write-refusal-requires : tie.Need-header-write-refusal-requires
+header-write-refusal-requires c κs = search needs
 
 refused-requires : tie.Need-refused-requires
 refused-requires c κs = search needs
@@ -17,7 +17,7 @@ refused-requires c κs = search needs
 returns : tie.Need-returns
 returns c =
     let a = c .before .before .before .before .args in
-    let kept = header-refused (now (a .list)) (a .place) (a .w) (a .h) (a .header) (sym (c .before .before .header-write-fault .ensures)) (c .before .if1 .taken) in
+    let kept = header-refused (now (a .list)) (a .place) (a .w) (a .h) (a .header) (sym (c .before .before .header-write-refusal .ensures)) (c .before .if1 .taken) in
     (c .refused .ensures ∙ kept .0, kept .1)
 
 header-bytes-requires : tie.Need-header-bytes-requires
@@ -25,9 +25,9 @@ header-bytes-requires c κs = search needs
 
 put-requires : tie.Need-put-requires
 put-requires c κs =
-    let header-write-fault = c .before .before .before .header-write-fault in
+    let header-write-refusal = c .before .before .before .header-write-refusal in
     let a = c .before .before .before .before .before .args in
-    (omega arith, header-room (length (now (a .list))) (a .header) (sym (header-write-fault .ensures) ∙ omega arith))
+    (omega arith, header-room (length (now (a .list))) (a .header) (sym (header-write-refusal .ensures) ∙ omega arith))
 
 same-length : tie.Need-same-length
 same-length c = search needs
@@ -35,17 +35,17 @@ same-length c = search needs
 returns-2 : tie.Need-returns-2
 unfolding headerBytes
 returns-2 c =
-    let header-write-fault = c .before .before .before .before .before .before .header-write-fault in
+    let header-write-refusal = c .before .before .before .before .before .before .header-write-refusal in
     let header-bytes = c .before .before .before .header-bytes in
     let a = c .before .before .before .before .before .before .before .before .args in
-    let done = header-done (now (a .list)) (a .place) (a .w) (a .h) (a .header) (sym (header-write-fault .ensures) ∙ omega arith) in
+    let done = header-done (now (a .list)) (a .place) (a .w) (a .h) (a .header) (sym (header-write-refusal .ensures) ∙ omega arith) in
     (done .0, c .before .before .put .ensures ∙ rw (header-bytes .ensures) (done .1))
 
 pub write-header-spec : {M : Type 1} → statement M
 write-header-spec =
     tie.close
     (tie.spec
-    header-write-fault-requires
+    header-write-refusal-requires
     refused-requires
     returns
     header-bytes-requires

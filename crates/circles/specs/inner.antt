@@ -1,0 +1,3 @@
+-- Discs and rings on a page.
+pub mod Circle
+pub mod Row

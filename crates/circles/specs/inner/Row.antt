@@ -1,0 +1,92 @@
+-- The rows of a ring, by the heights of its two circles. A disc is a ring whose hole has radius 0.
+use mathlib.Core.Path.{_≡_}
+use mathlib.Core.List.{List}
+use Prim.Native.Nat.{ℕ, _+_, _*_, _-_, _≤_, _<_, min, max}
+use lib.ListN.{getD}
+use Rattle.page.specs.inner.Ink.{inkOf}
+use Rattle.page.specs.inner.Paint.{clipped, Lawful, Drawn}
+use Rattle.page.specs.declared.View.{View}
+use Rattle.coverage.specs.inner.Circle.{apart}
+use Rattle.coverage.specs.Circle.{chords}
+use Rattle.circles.specs.declared.cover.Widths.{Widths}
+use Rattle.circles.specs.declared.rows.Ring.{Ring}
+
+-- ---- by distances from the centre
+
+-- element k of an array of heights
+abbrev pub at : List ℕ → ℕ → ℕ
+at hs k = getD hs k 0
+
+-- the coverage over 512 between circles with the heights Y and Z, at the distances a and b
+unfoldable pub between : (ℕ → ℕ) → (ℕ → ℕ) → ℕ → ℕ → ℕ
+between Y Z a b = chords Y a b - chords Z a b
+
+-- heights fall from the centre outwards, and are at most those of radius R
+pub record Heights (Y : ℕ → ℕ) (R : ℕ) : Type 0 where
+  pub falls : (j k : ℕ) → j ≤ k → Y k ≤ Y j
+  pub most : (k : ℕ) → Y k ≤ 256 * R
+
+-- Y are the heights of a circle, and Z those of a circle of radius r within it
+pub record Nested (Y Z : ℕ → ℕ) (r : ℕ) : Type 0 where
+  pub outer : Heights Y 255
+  pub inner : Heights Z r
+  pub small : r ≤ 255
+  pub within : (k : ℕ) → Z k ≤ Y k
+
+-- in the row at distance b nothing is covered below `hole`, all is from `inner` to `whole`, and nothing from `outer` on
+pub record Measured (Y Z : ℕ → ℕ) (b : ℕ) (row : Widths) : Type 0 where
+  pub order : (row .hole ≤ row .inner) × (row .inner ≤ row .whole) × (row .whole ≤ row .outer) × (row .outer ≤ 255)
+  pub hole-none : (a : ℕ) → a < row .hole → between Y Z a b ≡ 0
+  pub whole-all : (a : ℕ) → row .inner ≤ a → a < row .whole → between Y Z a b ≡ 512
+  pub outer-none : (a : ℕ) → row .outer ≤ a → between Y Z a b ≡ 0
+
+-- ---- by columns and rows of a page
+
+-- the coverage of pixel (x, y)
+abbrev pub betweenOn : (ℕ → ℕ) → (ℕ → ℕ) → Ring → ℕ → ℕ → ℕ
+betweenOn Y Z ring x y = between Y Z (apart (ring .cx) (x + 4096)) (apart (ring .cy) (y + 4096))
+
+-- the column or row of an offset, clamped to lo to hi
+abbrev pub clamped : ℕ → ℕ → ℕ → ℕ
+clamped lo hi c = min hi (max lo (c - 4096))
+
+-- the columns of a clip nearer than d to the centre begin at leftOf and end before rightOf
+abbrev pub leftOf : View → Ring → ℕ → ℕ
+leftOf view ring d = clamped (view .x0) (view .x1) (ring .cx - d)
+
+abbrev pub rightOf : View → Ring → ℕ → ℕ
+rightOf view ring d = clamped (view .x0) (view .x1) (ring .cx + d)
+
+-- the part of a clip that the box of a ring of radius R meets
+abbrev pub boxed : View → Ring → ℕ → View
+boxed view ring R =
+    record {
+      w = view .w;
+      h = view .h;
+      x0 = leftOf view ring R;
+      y0 = clamped (view .y0) (view .y1) (ring .cy - R);
+      x1 = rightOf view ring R;
+      y1 = clamped (view .y0) (view .y1) (ring .cy + R);
+    }
+
+-- every pixel of the clip is near enough to the centre for its heights to be held
+pub record Reached (view : View) (ring : Ring) : Type 0 where
+  pub columns : (x : ℕ) → view .x0 ≤ x → x < view .x1 → apart (ring .cx) (x + 4096) ≤ 255
+  pub rows : (y : ℕ) → view .y0 ≤ y → y < view .y1 → apart (ring .cy) (y + 4096) ≤ 255
+
+-- what the rows of a ring are drawn from: a page of size bytes, a clip within the ring's box, and the heights of its two circles
+pub record Ready (view : View) (size : ℕ) (ring : Ring) (Y Z : ℕ → ℕ) : Type 0 where
+  pub lawful : Lawful view size
+  pub near : Reached view ring
+  pub nested : Nested Y Z (ring .hole)
+  pub centre : ring .cx ≤ 8191
+
+-- columns p to s of row y, of which q to r are whole
+pub record Band (Y Z : ℕ → ℕ) (view : View) (ring : Ring) (y p q r s : ℕ) : Type 0 where
+  pub row : (view .y0 ≤ y) × (y < view .y1)
+  pub order : (view .x0 ≤ p) × (p ≤ q) × (q ≤ r) × (r ≤ s) × (s ≤ view .x1)
+  pub whole : (x : ℕ) → q ≤ x → x < r → betweenOn Y Z ring x y ≡ 512
+
+-- what of the ring lies in columns x0 to x1 and rows y0 to y1 is drawn on l, which gives m, and touches t pixels
+abbrev pub RingDrawn : View → Ring → (ℕ → ℕ) → (ℕ → ℕ) → ℕ → ℕ → ℕ → ℕ → List ℕ → List ℕ → ℕ → Type 0
+RingDrawn view ring Y Z x0 y0 x1 y1 l m t = Drawn (view .w) (view .h) (inkOf (ring .level) 512) (clipped x0 y0 x1 y1 (betweenOn Y Z ring)) l m t

@@ -1,0 +1,2 @@
+-- What the functions within are handed.
+pub mod View

@@ -1,0 +1,2 @@
+-- How a list is drawn record by record.
+pub mod Walk

@@ -1,0 +1,35 @@
+-- What the functions within say of a list that is drawn record by record.
+use mathlib.Core.Path.{_≡_}
+use mathlib.Core.List.{List, [], _∷_}
+use Prim.Native.Nat.{ℕ, _*_, _%_, _/_, _≤_}
+use Rattle.shapes.specs.Limits.{shapeRefusal}
+use Rattle.shapes.specs.declared.Clip.{Clip}
+use Rattle.page.specs.Page.{over}
+use Rattle.lists.specs.inner.Walk.{Walkable}
+use Rattle.bound.specs.Exact.{byteAfter}
+use Rattle.draw.specs.Touch.{pageAfter}
+use Rattle.lists.specs.Drawing.{Drawing}
+use Rattle.drawing.specs.Touches.{touchesAt}
+use Rattle.lists.specs.declared.settings.Settings.{Settings}
+
+abbrev pub settingsOf : Clip → ℕ → Settings
+settingsOf c v = record { clip = c; level = v }
+
+-- the page l after one shape upon the other
+unfoldable pub shapesPage : ℕ → List Drawing → List ℕ → List ℕ
+shapesPage w [] l = l
+shapesPage w (d ∷ ds) l = shapesPage w ds (pageAfter w (d .settings .clip) (d .settings .level) (d .shape) l)
+
+-- every byte of a page as the touches of its pixel leave the background b
+unfoldable pub touchedPage : ℕ → ℕ → List Drawing → List ℕ → List ℕ
+touchedPage w b ds = over (λ k _. byteAfter b (touchesAt ds (k % w) (k / w)))
+
+-- every level is a byte, and no shape has a refusal
+unfoldable pub AllLawful : List Drawing → Type 0
+AllLawful [] = Unit {0}
+AllLawful (d ∷ ds) = (d .settings .level ≤ 255) × (shapeRefusal (d .shape) ≡ 0) × AllLawful ds
+
+-- an accepted list s, and a page of w by h in size bytes
+pub record Drawable (s : List ℕ) (w h size : ℕ) : Type 0 where
+  pub walk : Walkable s w h
+  pub room : w * h ≤ size

@@ -1,0 +1,109 @@
+-- How the frame of a line lies on a page. A frame's rows are counted from 16,384, so that none is negative, and p is the page's column
+-- of a frame's column, or its row where the line is steep.
+use mathlib.Core.Bool.{Bool, true, cond, _&&_}
+use mathlib.Core.Path.{_≡_}
+use mathlib.Core.List.{List}
+use Prim.Native.Nat.{ℕ, _+_, _*_, _-_, _^_, _≤_, _<_}
+use lib.Dec.{leb, ltb}
+use lib.IntN.{pos}
+use lib.ListN.{getD, set}
+use Rattle.shapes.specs.declared.Line.{Line}
+use Rattle.shapes.specs.declared.Shape.the-variants.{Line as line}
+use Rattle.coverage.specs.Line.{rowOf, restOf}
+use Rattle.coverage.specs.Coverage.{drawnN, drawnD}
+use Rattle.coverage.specs.declared.line.Frame.{Frame}
+use Rattle.coverage.specs.declared.line.Rows.{Rows}
+use Rattle.page.specs.inner.Ink.{inkOf}
+use Rattle.page.specs.inner.Paint.{dot, touch, clipped}
+use Rattle.page.specs.declared.View.{View}
+use Rattle.lines.specs.declared.layout.Layout.{Layout}
+
+-- the coverage of the page's pixels by a line, and the ink that it is drawn with
+abbrev pub lineOn : Line → ℕ → ℕ → ℕ
+lineOn n x y = drawnN (line n) (pos x) (pos y)
+
+abbrev pub lineInk : Line → ℕ → ℕ → ℕ → ℕ
+lineInk n v = inkOf v (drawnD (line n))
+
+-- the clip's range along a frame's columns, and across them
+abbrev pub alongFrom : View → Frame → ℕ
+alongFrom c f = cond (f .steep) (c .y0) (c .x0)
+
+abbrev pub alongEnd : View → Frame → ℕ
+alongEnd c f = cond (f .steep) (c .y1) (c .x1)
+
+abbrev pub acrossFrom : View → Frame → ℕ
+acrossFrom c f = cond (f .steep) (c .x0) (c .y0)
+
+abbrev pub acrossEnd : View → Frame → ℕ
+acrossEnd c f = cond (f .steep) (c .x1) (c .y1)
+
+-- a coverage under the clip, in the frame's columns p to e alone
+unfoldable pub strip : View → Frame → ℕ → ℕ → (ℕ → ℕ → ℕ) → ℕ → ℕ → ℕ
+strip c f p e n = cond (f .steep) (clipped (c .x0) p (c .x1) e n) (clipped p (c .y0) e (c .y1) n)
+
+-- the frame's row of a pixel
+abbrev pub rowAt : Frame → ℕ → ℕ → ℕ
+rowAt f x y = cond (f .falls) (f .y + 12287 - cond (f .steep) x y) (cond (f .steep) x y + 20480 - f .y)
+
+-- the byte of column p and row g, with the layout's origin added, so that a pixel off the page has one too
+abbrev pub byteAt : Frame → Layout → ℕ → ℕ → ℕ
+byteAt f lay p g = (p + 4096) * lay .along + cond (f .falls) (f .y + 32767 - g) (f .y + g) * lay .across
+
+pub record Laid (c : View) (f : Frame) (lay : Layout) : Type 0 where
+  pub along-is : lay .along ≡ cond (f .steep) (c .w) 1
+  pub across-is : lay .across ≡ cond (f .steep) 1 (c .w)
+  pub falls-is : lay .falls ≡ f .falls
+  pub low-is : lay .low ≡ cond (f .falls) (f .y + 12288 - acrossEnd c f) (acrossFrom c f + 20480 - f .y)
+  pub high-is : lay .high ≡ cond (f .falls) (f .y + 12288 - acrossFrom c f) (acrossEnd c f + 20480 - f .y)
+  pub origin-is : lay .origin ≡ 4096 * lay .along + 20480 * lay .across
+
+-- row g lies in the clip
+abbrev pub shown : Layout → ℕ → Bool
+shown lay g = leb (lay .low) g && ltb g (lay .high)
+
+-- byte k of a page, blended by an ink at coverage n where its row is shown; and how many pixels that touches
+abbrev pub spotted : Bool → (ℕ → ℕ → ℕ) → ℕ → ℕ → List ℕ → List ℕ
+spotted t ink n k l = cond t (set l k (dot ink n (getD l k 0))) l
+
+abbrev pub counted : Bool → ℕ → ℕ
+counted t n = cond t (touch n) 0
+
+-- the byte of the row above, and of the row below
+abbrev pub raised : Layout → ℕ → ℕ
+raised lay k = cond (lay .falls) (k - lay .across) (k + lay .across)
+
+abbrev pub lowered : Layout → ℕ → ℕ
+lowered lay k = cond (lay .falls) (k + lay .across) (k - lay .across)
+
+-- the rows of a column that are shown, blended, its middle pixel being byte k in row g; and how many pixels that touches
+abbrev pub columned : Layout → (ℕ → ℕ → ℕ) → Rows → ℕ → ℕ → List ℕ → List ℕ
+columned lay ink c k g l =
+    spotted (shown lay (g - 1)) ink (c .lower) (lowered lay k - lay .origin)
+    (spotted (shown lay g) ink (c .middle) (k - lay .origin)
+    (spotted (shown lay (g + 1)) ink (c .upper) (raised lay k - lay .origin) l))
+
+abbrev pub columnCount : Layout → Rows → ℕ → ℕ
+columnCount lay c g = counted (shown lay (g + 1)) (c .upper) + counted (shown lay g) (c .middle) + counted (shown lay (g - 1)) (c .lower)
+
+-- what a walk may touch from byte k in row g: the bytes of the rows around it that are shown lie on the page
+pub record Reachable (lay : Layout) (k g size : ℕ) : Type 0 where
+  pub least : lay .across ≤ k
+  pub most : k + lay .across < 2 ^ 63
+  pub row-least : 1 ≤ g
+  pub row-most : g ≤ 32766
+  pub upper : shown lay (g + 1) ≡ true → (lay .origin ≤ raised lay k) × (raised lay k - lay .origin < size)
+  pub middle : shown lay g ≡ true → (lay .origin ≤ k) × (k - lay .origin < size)
+  pub lower : shown lay (g - 1) ≡ true → (lay .origin ≤ lowered lay k) × (lowered lay k - lay .origin < size)
+
+-- the walk stands at column p: its byte, its row and its rest
+pub record At (f : Frame) (lay : Layout) (p k g r : ℕ) : Type 0 where
+  pub k-is : k ≡ byteAt f lay p g
+  pub g-is : g ≡ 16384 + rowOf (f .l) (f .s) (p + 4096 - f .x)
+  pub r-is : r ≡ restOf (f .l) (f .s) (p + 4096 - f .x)
+
+-- from the rest r the next column is in the next row where r and 2s come to 2l
+pub record Advanced (lay : Layout) (l2 s2 k g r k′ g′ r′ : ℕ) : Type 0 where
+  pub k-is : k′ ≡ cond (leb l2 (r + s2)) (raised lay k) k + lay .along
+  pub g-is : g′ ≡ cond (leb l2 (r + s2)) (g + 1) g
+  pub r-is : r′ ≡ cond (leb l2 (r + s2)) (r + s2 - l2) (r + s2)

@@ -1,0 +1,39 @@
+use Rattle.lists.specs.Settings.{inForce}
+use borrow.Author.Needs.{needs}
+use Rattle.lists.proofs.settings.settings_after.Statement.{statement}
+use Rattle.lists.proofs.settings.settings_after.Tie as tie
+
+enum-known-rec : tie.Need-enum-known-rec
+enum-known-rec c = search needs
+
+settings-with-requires : tie.Need-settings-with-requires
+settings-with-requires c κs = search needs
+
+enum-told : tie.Need-enum-told
+enum-told c = search needs
+
+enum-told-2 : tie.Need-enum-told-2
+enum-told-2 c = search needs
+
+returns : tie.Need-returns
+returns c = rw (c .before .before .rec .given .1) (c .settings-with .ensures)
+
+returns-2 : tie.Need-returns-2
+unfolding inForce
+returns-2 c = rw (c .enum-told .given .1)
+
+returns-3 : tie.Need-returns-3
+unfolding inForce
+returns-3 c = rw (c .enum-told2 .given .1)
+
+pub settings-after-spec : {M : Type 1} → statement M
+settings-after-spec =
+    tie.close
+    (tie.spec
+    enum-known-rec
+    settings-with-requires
+    enum-told
+    enum-told-2
+    returns
+    returns-2
+    returns-3)

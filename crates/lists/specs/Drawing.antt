@@ -1,0 +1,27 @@
+-- The drawings of a list: its shapes, each with the settings in force.
+use mathlib.Core.List.{List, [], _∷_, _++_}
+use Prim.Native.Nat.{ℕ}
+use Rattle.shapes.specs.declared.Shape.{Shape}
+use Rattle.shapes.specs.declared.Record.{Record}
+use Rattle.shapes.specs.declared.Record.the-variants.{End as end, Setting as setting, Shape as shape}
+use Rattle.lists.specs.Settings.{start, inForce}
+use Rattle.lists.specs.declared.settings.Settings.{Settings}
+
+-- a shape with the settings in force
+pub record Drawing : Type 0 where
+  pub settings : Settings
+  pub shape : Shape
+
+unfoldable pub drawingOf : Settings → Record → List Drawing
+drawingOf f end = []
+drawingOf f (setting g) = []
+drawingOf f (shape s) = record { settings = f; shape = s } ∷ []
+
+-- the drawings of some records, in order
+unfoldable pub drawingsFrom : Settings → List Record → List Drawing
+drawingsFrom f [] = []
+drawingsFrom f (r ∷ rs) = drawingOf f r ++ drawingsFrom (inForce f r) rs
+
+-- the drawings of a list's records on a page of w by h
+abbrev pub drawings : ℕ → ℕ → List Record → List Drawing
+drawings w h = drawingsFrom (start w h)

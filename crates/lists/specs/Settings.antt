@@ -1,0 +1,17 @@
+-- The settings in force.
+use Prim.Native.Nat.{ℕ}
+use Rattle.shapes.specs.declared.Setting.the-variants.{Clip as clip, Level as level}
+use Rattle.shapes.specs.declared.Record.{Record}
+use Rattle.shapes.specs.declared.Record.the-variants.{End as end, Setting as setting, Shape as shape}
+use Rattle.lists.specs.declared.settings.Settings.{Settings}
+
+-- the clip starts as the whole page, the level as 255
+unfoldable pub start : ℕ → ℕ → Settings
+start w h = record { clip = record { x0 = 0; y0 = 0; x1 = w; y1 = h }; level = 255 }
+
+-- a setting holds until the next of its kind
+unfoldable pub inForce : Settings → Record → Settings
+inForce f end = f
+inForce f (setting (clip c)) = record { clip = c; level = f .level }
+inForce f (setting (level v)) = record { clip = f .clip; level = v }
+inForce f (shape s) = f

@@ -1,0 +1,52 @@
+// The settings in force.
+use shapes::Clip;
+use shapes::Record;
+use shapes::Setting;
+ghost use mathlib.Core.Path.{_≡_};
+ghost use Rattle.lists.specs.Settings.{start, inForce};
+
+// The clip and the level in force.
+pub struct Settings {
+    pub clip: Clip,
+    pub level: u8,
+}
+
+// The settings before the first record.
+pub fn first_settings(w: u16, h: u16) -> Settings
+    ensures { λ r. ⌜ r ≡ start w h ⌝ }
+{
+    Settings {
+        clip: Clip {
+            x0: 0,
+            y0: 0,
+            x1: w,
+            y1: h,
+        },
+        level: 255,
+    }
+}
+
+// The settings after one more.
+fn settings_with(settings: Settings, setting: Setting) -> Settings
+    ensures { λ r. ⌜ r ≡ inForce settings (Record.Setting setting) ⌝ }
+{
+    let old = settings.clip;
+    match setting {
+        Setting::Clip(clip) => Settings {
+            clip,
+            level: settings.level,
+        },
+        Setting::Level(level) => Settings { clip: old, level },
+    }
+}
+
+// The settings after a record.
+pub fn settings_after(settings: Settings, rec: Record) -> Settings
+    ensures { λ r. ⌜ r ≡ inForce settings rec ⌝ }
+{
+    match rec {
+        Record::Setting(setting) => settings_with(settings, setting),
+        Record::Shape(_) => settings,
+        Record::End => settings,
+    }
+}

@@ -1,0 +1,3 @@
+-- What the functions within compute; no entry point cites it.
+pub mod Order
+pub mod Offset

@@ -1,0 +1,2 @@
+-- The numbers of shapes as the functions within take them.
+pub mod Offsets
