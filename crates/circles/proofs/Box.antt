@@ -9,7 +9,7 @@ use Rattle.page.specs.inner.Ink.{inkOf}
 use Rattle.page.specs.inner.Paint.{inView, Lawful, Drawn}
 use Rattle.page.specs.declared.View.{View}
 use Rattle.page.proofs.Clip.{Inside, Outside, left-of, right-of, above, below, clip-ext, clip-shrink, clip-zero}
-use Rattle.page.proofs.Paint.{drawn-none, drawn-ext}
+use Rattle.page.proofs.Drawn.{drawn-none, drawn-ext}
 use Rattle.coverage.specs.Circle.{heightOf, chords}
 use Rattle.coverage.specs.inner.Circle.{apart}
 use Rattle.coverage.proofs.Height.{height-most, height-falls, height-rises}
@@ -17,7 +17,8 @@ use Rattle.circles.specs.inner.Circle.{discOn, ringOn}
 use Rattle.circles.specs.inner.Row.{at, between, betweenOn, RingDrawn, Heights, Nested, Reached, Ready, boxed}
 use Rattle.circles.specs.declared.rows.Ring.{Ring}
 use Rattle.circles.proofs.Chords.{chords-far, chords-none, heights-wider}
-use Rattle.circles.proofs.Clamp.{clamped-low, clamped-high, clamped-rises, before-clamped, from-clamped, between-clamped, apart-near, apart-left, apart-right}
+use Rattle.page.proofs.Clamp.{clamped-low, clamped-high, clamped-rises, before-clamped, from-clamped, between-clamped}
+use Rattle.circles.proofs.Apart.{apart-near, apart-left, apart-right}
 
 -- ---- the heights of circles
 
@@ -96,23 +97,3 @@ module _ (view : View) (ring : Ring) (R : ℕ) {size : ℕ} (law : Lawful view s
     boxed-empty ink l none = boxed-drawn (drawn-none _ _ ink _ l (clip-zero _ _ _ _ _ (λ x y i. absurd (none x y i))))
 
 -- ---- discs and rings
-
-pub ring-drawn : (view : View) (R w : ℕ) (ring : Ring) {l m : List ℕ} {t : ℕ} → ring .hole ≡ R - w
-    → RingDrawn view ring (heightOf R) (heightOf (ring .hole)) (view .x0) (view .y0) (view .x1) (view .y1) l m t
-    → Drawn (view .w) (view .h) (inkOf (ring .level) 512) (inView view (ringOn R w (ring .cx) (ring .cy))) l m t
-unfolding between discOn ringOn
-ring-drawn view R w ring e =
-    drawn-ext (inView view (ringOn R w (ring .cx) (ring .cy)))
-    (clip-ext _ _ _ _ _ (ringOn R w (ring .cx) (ring .cy)) (λ x y i. rw e))
-
--- a disc is a ring whose hole has radius 0
-pub disc-drawn : (view : View) (R : ℕ) (ring : Ring) {l m : List ℕ} {t : ℕ} → ring .hole ≡ 0
-    → RingDrawn view ring (heightOf R) (heightOf (ring .hole)) (view .x0) (view .y0) (view .x1) (view .y1) l m t
-    → Drawn (view .w) (view .h) (inkOf (ring .level) 512) (inView view (discOn R (ring .cx) (ring .cy))) l m t
-unfolding between discOn
-disc-drawn view R ring e =
-    drawn-ext (inView view (discOn R (ring .cx) (ring .cy)))
-    (clip-ext _ _ _ _ _ (discOn R (ring .cx) (ring .cy)) (λ x y i. rw e (none (apart (ring .cx) (x + 4096)) (apart (ring .cy) (y + 4096)))))
-  where
-    none : (a b : ℕ) → chords (heightOf R) a b - chords (heightOf 0) a b ≡ chords (heightOf R) a b
-    none a b = omega (arith, chords-none (heights-of 0) a b)

@@ -1,5 +1,6 @@
 -- Laws of discs and rings on a page.
 pub mod Chords
-pub mod Clamp
+pub mod Apart
 pub mod Row
 pub mod Box
+pub mod Shape

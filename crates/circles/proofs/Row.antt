@@ -5,15 +5,16 @@ use mathlib.Core.List.{List}
 use Prim.Native.Nat.{ℕ, _+_, _-_, _≤_, _<_}
 use native.Mathlib.Omega.{arith}
 use lib.ListN.{length}
-use Rattle.page.specs.inner.Paint.{clipped, Drawn}
+use Rattle.page.specs.inner.Paint.{clipped, Drawn, clamped}
 use Rattle.page.specs.declared.View.{View}
 use Rattle.page.proofs.Clip.{Inside, Outside, left-of, right-of, above, below, clip-ext, clip-shrink, clip-columns}
-use Rattle.page.proofs.Paint.{drawn-ext, drawn-join, drawn-length}
+use Rattle.page.proofs.Drawn.{drawn-ext, drawn-join, drawn-length}
 use Rattle.coverage.specs.inner.Circle.{apart}
-use Rattle.circles.specs.inner.Row.{betweenOn, Ready, Measured, Band, RingDrawn, clamped, leftOf, rightOf}
+use Rattle.circles.specs.inner.Row.{betweenOn, Ready, Measured, Band, RingDrawn, leftOf, rightOf}
 use Rattle.circles.specs.declared.rows.Ring.{Ring}
 use Rattle.circles.specs.declared.cover.Widths.{Widths}
-use Rattle.circles.proofs.Clamp.{clamped-low, clamped-high, clamped-rises, before-clamped, from-clamped, between-clamped, apart-near, apart-left, apart-right}
+use Rattle.page.proofs.Clamp.{clamped-low, clamped-high, clamped-rises, before-clamped, from-clamped, between-clamped}
+use Rattle.circles.proofs.Apart.{apart-near, apart-left, apart-right}
 
 -- a page that was drawn on stands ready as before
 pub ready-after : {w h : ℕ} {ink n : ℕ → ℕ → ℕ} {l m : List ℕ} {t : ℕ} {view : View} {ring : Ring} {Y Z : ℕ → ℕ}
@@ -21,43 +22,6 @@ pub ready-after : {w h : ℕ} {ink n : ℕ → ℕ → ℕ} {l m : List ℕ} {t 
     → Ready view (length l) ring Y Z
     → Ready view (length m) ring Y Z
 ready-after {view = view} {ring} {Y} {Z} d = subst (λ (k : ℕ). Ready view k ring Y Z) (sym (drawn-length d))
-
--- columns p to q drawn, q to r whole, and r to s drawn
-pub drawn-band : {w h : ℕ} {ink : ℕ → ℕ → ℕ} {l m k l′ : List ℕ} {t u v : ℕ} (n : ℕ → ℕ → ℕ) (d y p q r s : ℕ) → p ≤ q → q ≤ r → r ≤ s
-    → ((x : ℕ) → q ≤ x → x < r → n x y ≡ d)
-    → Drawn w h ink (clipped p y q (y + 1) n) l m t
-    → Drawn w h ink (clipped q y r (y + 1) (λ _ _. d)) m k u
-    → Drawn w h ink (clipped r y s (y + 1) n) k l′ v
-    → Drawn w h ink (clipped p y s (y + 1) n) l l′ (t + u + v)
-drawn-band n d y p q r s h₁ h₂ h₃ whole first middle last =
-    drawn-join (clipped p y s (y + 1) n) (clip-columns p y s (y + 1) r n (omega arith) h₃)
-    (drawn-join (clipped p y r (y + 1) n) (clip-columns p y r (y + 1) q n h₁ h₂) first
-    (drawn-ext (clipped q y r (y + 1) n) (clip-ext q y r (y + 1) (λ _ _. d) n same) middle))
-    last
-  where
-    same : (x z : ℕ) → Inside q y r (y + 1) x z → d ≡ n x z
-    same x z i =
-        let e : y ≡ z = omega arith in
-        rw (sym e) (sym (whole x (i .left) (i .right)))
-
--- columns a to b are drawn with c to d, where the row has nothing in the others
-pub drawn-row : {w h : ℕ} {ink : ℕ → ℕ → ℕ} {l m : List ℕ} {t : ℕ} (n : ℕ → ℕ → ℕ) (a b c d y : ℕ) → a ≤ c → d ≤ b
-    → ((x : ℕ) → a ≤ x → x < b → (x < c) ⊎ (d ≤ x) → n x y ≡ 0)
-    → Drawn w h ink (clipped c y d (y + 1) n) l m t
-    → Drawn w h ink (clipped a y b (y + 1) n) l m t
-drawn-row n a b c d y h₁ h₂ none =
-    drawn-ext (clipped a y b (y + 1) n) (clip-shrink a y b (y + 1) c y d (y + 1) n h₁ (omega arith) h₂ (omega arith) nothing)
-  where
-    here : (x z : ℕ) → Inside a y b (y + 1) x z → (x < c) ⊎ (d ≤ x) → n x z ≡ 0
-    here x z i o =
-        let e : y ≡ z = omega arith in
-        rw (sym e) (none x (i .left) (i .right) o)
-
-    nothing : (x z : ℕ) → Inside a y b (y + 1) x z → Outside c y d (y + 1) x z → n x z ≡ 0
-    nothing x z i (left-of h) = here x z i (inl h)
-    nothing x z i (right-of h) = here x z i (inr h)
-    nothing x z i (above h) = absurd (omega arith)
-    nothing x z i (below h) = absurd (omega arith)
 
 -- a row whose widths are known
 module _ {Y Z : ℕ → ℕ} {view : View} {size : ℕ} {ring : Ring} {row : Widths} (y : ℕ)
@@ -116,15 +80,15 @@ module _ {Y Z : ℕ → ℕ} {view : View} {size : ℕ} {ring : Ring} {row : Wid
     none-middle : (x : ℕ) → leftOf view ring (row .hole) ≤ x → x < rightOf view ring (row .hole) → betweenOn Y Z ring x y ≡ 0
     none-middle x p q = let b = within _ _ x p q in m .hole-none _ (apart-near (ring .cx) (row .hole) (x + 4096) (b .0) (b .1))
 
-    pub solid-row : {l m : List ℕ} {t : ℕ}
-        → RingDrawn view ring Y Z (leftOf view ring (row .outer)) y (rightOf view ring (row .outer)) (y + 1) l m t
-        → RingDrawn view ring Y Z (view .x0) y (view .x1) (y + 1) l m t
+    pub solid-row : {ink : ℕ → ℕ → ℕ} {l m : List ℕ} {t : ℕ}
+        → RingDrawn ink view ring Y Z (leftOf view ring (row .outer)) y (rightOf view ring (row .outer)) (y + 1) l m t
+        → RingDrawn ink view ring Y Z (view .x0) y (view .x1) (y + 1) l m t
     solid-row = drawn-row _ _ _ _ _ y (clamped-low _ _ _ clip) (clamped-high _ _ _) (λ x p q. ⊎-elim (none-left x p) (none-right x q))
 
-    pub hollow-row : {l k m : List ℕ} {t u : ℕ}
-        → RingDrawn view ring Y Z (leftOf view ring (row .outer)) y (leftOf view ring (row .hole)) (y + 1) l k t
-        → RingDrawn view ring Y Z (rightOf view ring (row .hole)) y (rightOf view ring (row .outer)) (y + 1) k m u
-        → RingDrawn view ring Y Z (view .x0) y (view .x1) (y + 1) l m (t + u)
+    pub hollow-row : {ink : ℕ → ℕ → ℕ} {l k m : List ℕ} {t u : ℕ}
+        → RingDrawn ink view ring Y Z (leftOf view ring (row .outer)) y (leftOf view ring (row .hole)) (y + 1) l k t
+        → RingDrawn ink view ring Y Z (rightOf view ring (row .hole)) y (rightOf view ring (row .outer)) (y + 1) k m u
+        → RingDrawn ink view ring Y Z (view .x0) y (view .x1) (y + 1) l m (t + u)
     hollow-row d e =
         let n = betweenOn Y Z ring in
         let c = rightOf view ring (row .hole) in

@@ -1,3 +1,2 @@
--- Discs and rings on a page.
-pub mod Circle
+-- The rows of discs and rings on a page.
 pub mod Row

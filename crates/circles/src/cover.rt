@@ -1,5 +1,7 @@
 // The coverage of a ring by the distances from its centre, and where a row of it changes.
 use coverage::circle::chord_of;
+use numbers::greater;
+use numbers::lesser;
 ghost use mathlib.Core.Path.{_≡_};
 ghost use Prim.Native.Nat.{ℕ, _+_, _-_, _*_, _≤_, _<_, min, max};
 ghost use lib.Dec.{leb};
@@ -12,18 +14,6 @@ pub struct Widths {
     pub inner: u64,
     pub whole: u64,
     pub outer: u64,
-}
-
-pub fn lesser(a: u64, b: u64) -> u64
-    ensures { λ r. ⌜ r ≡ min a b ⌝ }
-{
-    if a <= b { a } else { b }
-}
-
-pub fn greater(a: u64, b: u64) -> u64
-    ensures { λ r. ⌜ r ≡ max a b ⌝ }
-{
-    if a <= b { b } else { a }
 }
 
 fn wide(height: u32) -> u64

@@ -1,17 +1,20 @@
 // Discs and rings on a lent page.
+use numbers::less;
 use page::View;
+use page::clamp_offset;
 use rows::Ring;
-use rows::clamp_offset;
 use rows::left_at;
-use rows::less;
 use rows::right_at;
 ghost use mathlib.Core.Path.{_≡_};
 ghost use Prim.Native.Nat.{_≤_};
 ghost use lib.ListN.{length};
-ghost use Rattle.page.specs.inner.Ink.{inkOf};
-ghost use Rattle.page.specs.inner.Paint.{painted, touches, inView, Lawful};
+ghost use Rattle.shapes.specs.Limits.{shapeRefusal};
+ghost use Rattle.shapes.specs.declared.Shape.the-variants.{Disc as asDisc, Ring as asRing};
 ghost use Rattle.coverage.specs.Circle.{heightOf};
-ghost use Rattle.circles.specs.inner.Circle.{discOn, ringOn};
+ghost use Rattle.coverage.specs.Coverage.{drawnD};
+ghost use Rattle.coverage.specs.inner.OnPage.{shapeOn};
+ghost use Rattle.page.specs.inner.Ink.{inkOf};
+ghost use Rattle.page.specs.inner.Paint.{Lawful, DrawnIn};
 ghost use Rattle.circles.specs.inner.Row.{boxed, RingDrawn};
 
 mod cover; // cover.rt: coverage by the distances from the centre
@@ -35,7 +38,7 @@ fn box_of(view: View, ring: Ring, radius: u64) -> View
 // Draws what lies between the circle of this radius and the ring's hole.
 fn draw_between(page: &mut [u8], view: View, ring: Ring, radius: u64) -> u64
     requires { ⌜ Lawful view (length (now page)) × (ring .cx ≤ 8191) × (ring .cy ≤ 8191) × (ring .hole ≤ radius) × (radius ≤ 255) ⌝ }
-    ensures { λ t. ⌜ RingDrawn view ring (heightOf radius) (heightOf (ring .hole))
+    ensures { λ t. ⌜ RingDrawn (inkOf (ring .level) 512) view ring (heightOf radius) (heightOf (ring .hole))
         (view .x0) (view .y0) (view .x1) (view .y1) (now (page .entry)) (now (page .exit)) t ⌝ }
 {
     let part = box_of(view, ring, radius);
@@ -51,42 +54,31 @@ fn draw_between(page: &mut [u8], view: View, ring: Ring, radius: u64) -> u64
 }
 
 // Draws a disc within the view's clip; hands back how many pixels it touched.
-pub fn draw_disc(page: &mut [u8], view: View, cx: u64, cy: u64, radius: u64, level: u8) -> u64
-    requires { ⌜ Lawful view (length (now page)) ⌝ }
-    requires { ⌜ (cx ≤ 8191) × (cy ≤ 8191) × (radius ≤ 255) ⌝ }
-    ensures { λ t. ⌜ now (page .exit) ≡ painted (view .w) (inkOf level 512) (inView view (discOn radius cx cy)) (now (page .entry)) ⌝ }
-    ensures { λ t. ⌜ t ≡ touches (view .w) (view .h) (inView view (discOn radius cx cy)) ⌝ }
+pub fn draw_disc(page: &mut [u8], view: View, disc: shapes::Disc, level: u8) -> u64
+    requires { ⌜ Lawful view (length (now page)) × (shapeRefusal (asDisc disc) ≡ 0) ⌝ }
+    ensures { λ t. ⌜ DrawnIn view (inkOf level (drawnD (asDisc disc))) (shapeOn (asDisc disc)) (now (page .entry)) (now (page .exit)) t ⌝ }
 {
+    let c = shapes::point_of(disc.x, disc.y);
     let ring = Ring {
-        cx,
-        cy,
+        cx: c.x,
+        cy: c.y,
         hole: 0,
         level,
     };
-    draw_between(page, view, ring, radius)
+    draw_between(page, view, ring, disc.radius as u64)
 }
 
 // Draws a ring within the view's clip; hands back how many pixels it touched.
-pub fn draw_ring(
-    page: &mut [u8],
-    view: View,
-    cx: u64,
-    cy: u64,
-    radius: u64,
-    width: u64,
-    level: u8,
-) -> u64
-    requires { ⌜ Lawful view (length (now page)) ⌝ }
-    requires { ⌜ (cx ≤ 8191) × (cy ≤ 8191) × (radius ≤ 255) × (width ≤ radius) ⌝ }
-    ensures { λ t. ⌜ now (page .exit) ≡ painted (view .w) (inkOf level 512)
-        (inView view (ringOn radius width cx cy)) (now (page .entry)) ⌝ }
-    ensures { λ t. ⌜ t ≡ touches (view .w) (view .h) (inView view (ringOn radius width cx cy)) ⌝ }
+pub fn draw_ring(page: &mut [u8], view: View, ring: shapes::Ring, level: u8) -> u64
+    requires { ⌜ Lawful view (length (now page)) × (shapeRefusal (asRing ring) ≡ 0) ⌝ }
+    ensures { λ t. ⌜ DrawnIn view (inkOf level (drawnD (asRing ring))) (shapeOn (asRing ring)) (now (page .entry)) (now (page .exit)) t ⌝ }
 {
-    let ring = Ring {
-        cx,
-        cy,
-        hole: radius - width,
+    let c = shapes::point_of(ring.x, ring.y);
+    let between = Ring {
+        cx: c.x,
+        cy: c.y,
+        hole: (ring.radius - ring.width) as u64,
         level,
     };
-    draw_between(page, view, ring, radius)
+    draw_between(page, view, between, ring.radius as u64)
 }

@@ -1,21 +1,20 @@
 // The rows of a ring, each drawn in stretches: edges are blended pixel by pixel, what is whole is filled, a hole is left alone.
 use super::cover::covered_between;
-use super::cover::greater;
-use super::cover::lesser;
 use super::cover::measure;
 use coverage::circle::apart_of;
+use numbers::ORIGIN;
+use numbers::less;
 use page::View;
+use page::clamp_offset;
 ghost use mathlib.Core.Path.{_≡_};
 ghost use Prim.Native.Nat.{ℕ, _+_, _-_, _≤_, _<_};
 ghost use lib.ListN.{length};
 ghost use Rattle.numbers.specs.Sum.{sumTo};
 ghost use Rattle.page.specs.inner.Ink.{inkOf};
 ghost use Rattle.page.specs.Page.{over};
-ghost use Rattle.page.specs.inner.Paint.{dot, touch, clipped, Lawful, Drawn};
+ghost use Rattle.page.specs.inner.Paint.{dot, touch, clipped, Lawful, Drawn, clamped};
 ghost use Rattle.coverage.specs.inner.Circle.{apart};
-ghost use Rattle.circles.specs.inner.Row.{at, between, Nested, clamped, leftOf, rightOf, Ready, Band, RingDrawn};
-
-const OFFSET: u64 = 4096;
+ghost use Rattle.circles.specs.inner.Row.{at, between, Nested, leftOf, rightOf, Ready, Band, RingDrawn};
 
 // The offsets of the centre, the radius of the hole, and the level.
 pub struct Ring {
@@ -23,20 +22,6 @@ pub struct Ring {
     pub cy: u64,
     pub hole: u64,
     pub level: u8,
-}
-
-// a less b, brought up to 0.
-pub fn less(a: u64, b: u64) -> u64
-    ensures { λ r. ⌜ r ≡ a - b ⌝ }
-{
-    if b <= a { a - b } else { 0 }
-}
-
-// The column or row of an offset, clamped to lo to hi.
-pub fn clamp_offset(lo: usize, hi: usize, c: u64) -> usize
-    ensures { λ r. ⌜ r ≡ clamped lo hi c ⌝ }
-{
-    lesser(hi as u64, greater(lo as u64, less(c, OFFSET))) as usize
 }
 
 // The first column of the clip that is nearer than d to the centre, and the first past those.
@@ -75,7 +60,7 @@ fn blend_edge(
     let mut touched: u64 = 0;
     let mut i = 0;
     while i < stretch.len() {
-        let n = covered_between(outer, inner, hole, apart_of(cx, (x + i) as u64 + OFFSET), b);
+        let n = covered_between(outer, inner, hole, apart_of(cx, (x + i) as u64 + ORIGIN), b);
         let u = stretch[i];
         stretch[i] = page::blend_byte_512(u, level, n);
         touched += page::touched(n);
@@ -97,13 +82,13 @@ fn draw_edge(
 ) -> u64
     requires { ⌜ Ready view (length (now page)) ring (at (now outer)) (at (now inner)) ⌝ }
     requires { ⌜ (view .y0 ≤ y) × (y < view .y1) × (view .x0 ≤ from) × (from ≤ end) × (end ≤ view .x1) ⌝ }
-    ensures { λ t. ⌜ RingDrawn view ring (at (now (outer .entry))) (at (now (inner .entry)))
+    ensures { λ t. ⌜ RingDrawn (inkOf (ring .level) 512) view ring (at (now (outer .entry))) (at (now (inner .entry)))
         from y end (y + 1) (now (page .entry)) (now (page .exit)) t ⌝ }
 {
     let w = view.w;
     let a = y * w + from;
     let e = y * w + end;
-    let b = apart_of(ring.cy, y as u64 + OFFSET);
+    let b = apart_of(ring.cy, y as u64 + ORIGIN);
     blend_edge(
         &mut page[a..e],
         outer,
@@ -114,20 +99,6 @@ fn draw_edge(
         b,
         ring.level,
     )
-}
-
-// Draws columns from to end of row y, which are whole.
-fn draw_whole(page: &mut [u8], view: View, level: u8, y: usize, from: usize, end: usize) -> u64
-    requires { ⌜ Lawful view (length (now page)) ⌝ }
-    requires { ⌜ (y < view .h) × (from ≤ end) × (end ≤ view .w) ⌝ }
-    ensures { λ t. ⌜ Drawn (view .w) (view .h) (inkOf level 512)
-        (clipped from y end (y + 1) (λ _ _. 512)) (now (page .entry)) (now (page .exit)) t ⌝ }
-{
-    let w = view.w;
-    let a = y * w + from;
-    let e = y * w + end;
-    page::fill(&mut page[a..e], level);
-    (end - from) as u64
 }
 
 // Draws columns p to s of row y, of which q to r are whole.
@@ -145,11 +116,11 @@ fn draw_band(
 ) -> u64
     requires { ⌜ Ready view (length (now page)) ring (at (now outer)) (at (now inner)) ⌝ }
     requires { ⌜ Band (at (now outer)) (at (now inner)) view ring y p q r s ⌝ }
-    ensures { λ t. ⌜ RingDrawn view ring (at (now (outer .entry))) (at (now (inner .entry)))
+    ensures { λ t. ⌜ RingDrawn (inkOf (ring .level) 512) view ring (at (now (outer .entry))) (at (now (inner .entry)))
         p y s (y + 1) (now (page .entry)) (now (page .exit)) t ⌝ }
 {
     let left = draw_edge(page, view, ring, outer, inner, y, p, q);
-    let whole = draw_whole(page, view, ring.level, y, q, r);
+    let whole = page::fill_row(page, view, ring.level, y, q, r);
     let right = draw_edge(page, view, ring, outer, inner, y, r, s);
     left + whole + right
 }
@@ -165,10 +136,10 @@ fn draw_row(
 ) -> u64
     requires { ⌜ Ready view (length (now page)) ring (at (now outer)) (at (now inner)) ⌝ }
     requires { ⌜ (view .y0 ≤ y) × (y < view .y1) ⌝ }
-    ensures { λ t. ⌜ RingDrawn view ring (at (now (outer .entry))) (at (now (inner .entry)))
+    ensures { λ t. ⌜ RingDrawn (inkOf (ring .level) 512) view ring (at (now (outer .entry))) (at (now (inner .entry)))
         (view .x0) y (view .x1) (y + 1) (now (page .entry)) (now (page .exit)) t ⌝ }
 {
-    let b = apart_of(ring.cy, y as u64 + OFFSET);
+    let b = apart_of(ring.cy, y as u64 + ORIGIN);
     let row = measure(outer, inner, ring.hole, b);
     let p = left_at(view, ring, row.outer);
     let q = left_at(view, ring, row.whole);
@@ -195,7 +166,7 @@ pub fn draw_rows(
     inner: &[u32; 257],
 ) -> u64
     requires { ⌜ Ready view (length (now page)) ring (at (now outer)) (at (now inner)) ⌝ }
-    ensures { λ t. ⌜ RingDrawn view ring (at (now (outer .entry))) (at (now (inner .entry)))
+    ensures { λ t. ⌜ RingDrawn (inkOf (ring .level) 512) view ring (at (now (outer .entry))) (at (now (inner .entry)))
         (view .x0) (view .y0) (view .x1) (view .y1) (now (page .entry)) (now (page .exit)) t ⌝ }
 {
     let end = view.y1;

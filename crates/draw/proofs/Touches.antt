@@ -30,7 +30,7 @@ use Rattle.page.specs.inner.Paint.{dot, touch, clipped, painted, touches, inVie
 use Rattle.page.specs.declared.View.{View}
 use Rattle.page.proofs.Clip.{clip-ext}
 use Rattle.page.proofs.Over.{over-ext}
-use Rattle.page.proofs.Paint.{drawn-ext}
+use Rattle.page.proofs.Drawn.{drawn-ext}
 use Rattle.circles.specs.inner.Circle.{discOn, ringOn}
 use Rattle.draw.specs.Touch.{keeps, touched, shapeByte, pageAfter, touchCount}
 use Rattle.coverage.specs.inner.OnPage.{shapeOn}

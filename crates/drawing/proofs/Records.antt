@@ -12,7 +12,7 @@ use Rattle.shapes.specs.declared.Record.the-variants.{End as end, Setting as se
 use Rattle.coverage.specs.Coverage.{drawnD}
 use Rattle.page.specs.inner.Ink.{inkOf}
 use Rattle.page.specs.inner.Paint.{inView, Lawful, Drawn}
-use Rattle.page.proofs.Paint.{drawn-count}
+use Rattle.page.proofs.Drawn.{drawn-count}
 use Rattle.lists.specs.Format.{headerSize, kindSize, recordAt}
 use Rattle.coverage.specs.inner.OnPage.{shapeOn}
 use Rattle.draw.specs.inner.View.{viewOf}

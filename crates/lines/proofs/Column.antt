@@ -20,7 +20,7 @@ use Rattle.coverage.proofs.Closed.{row-le, row-below, row-lower, row-middle, ro
 use Rattle.page.specs.inner.Paint.{Lawful, Drawn}
 use Rattle.page.specs.declared.View.{View}
 use Rattle.page.proofs.Clip.{Either}
-use Rattle.page.proofs.Paint.{drawn-join, drawn-length}
+use Rattle.page.proofs.Drawn.{drawn-join, drawn-length}
 use Rattle.lines.specs.inner.Layout.{lineOn, alongFrom, alongEnd, strip, rowAt, byteAt, Laid, shown, spotted, counted, columned, columnCount, raised, lowered}
 use Rattle.lines.specs.declared.layout.Layout.{Layout}
 use Rattle.lines.proofs.Strip.{InColumn, inside, outside, in-column, line-inside}

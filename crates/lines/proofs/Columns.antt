@@ -17,7 +17,7 @@ use Rattle.coverage.proofs.Pixel.{whole-drawn}
 use Rattle.page.specs.inner.Ink.{inkOf, Coverage}
 use Rattle.page.specs.inner.Paint.{Lawful, Drawn}
 use Rattle.page.specs.declared.View.{View}
-use Rattle.page.proofs.Paint.{drawn-none}
+use Rattle.page.proofs.Drawn.{drawn-none}
 use Rattle.lines.specs.inner.Layout.{lineOn, lineInk, alongFrom, alongEnd, strip, Laid, columned, columnCount, At}
 use Rattle.lines.specs.declared.layout.Layout.{Layout}
 use Rattle.lines.proofs.Strip.{strip-none}

@@ -13,7 +13,8 @@ use Rattle.coverage.specs.declared.line.Frame.{Frame}
 use Rattle.page.specs.inner.Paint.{clipped, Lawful, Drawn}
 use Rattle.page.specs.declared.View.{View}
 use Rattle.page.proofs.Clip.{Inside, Outside, in-or-out, clip-in, clip-out}
-use Rattle.page.proofs.Paint.{row-end, drawn-none, drawn-one}
+use Rattle.page.proofs.Paint.{row-end}
+use Rattle.page.proofs.Drawn.{drawn-none, drawn-one}
 use Rattle.lines.specs.inner.Layout.{alongFrom, alongEnd, strip, rowAt, byteAt, Laid, shown, spotted, counted}
 use Rattle.lines.specs.declared.layout.Layout.{Layout}
 

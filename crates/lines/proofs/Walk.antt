@@ -9,7 +9,7 @@ use lib.Dec.{leb, ltb}
 use borrow.Author.Tests.{le-leb, lt-ltb, leb-true, ltb-true}
 use Rattle.numbers.proofs.Order.{lt-or-le}
 use Rattle.page.specs.inner.Paint.{Drawn}
-use Rattle.page.proofs.Paint.{drawn-join}
+use Rattle.page.proofs.Drawn.{drawn-join}
 use Rattle.lines.specs.inner.Layout.{lineOn, lineInk, alongFrom, strip, At}
 use Rattle.lines.specs.inner.Stroke.{Prepared, Standing, EndInside, Extended}
 use Rattle.lines.specs.declared.step.Step.{Step}

@@ -2,4 +2,7 @@
 pub mod Blend
 pub mod Over
 pub mod Clip
+pub mod Clamp
 pub mod Paint
+pub mod Touches
+pub mod Drawn

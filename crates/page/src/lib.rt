@@ -5,7 +5,7 @@ ghost use lib.ListN.{length, getD, set};
 ghost use Rattle.page.specs.Blend.{blend};
 ghost use Rattle.page.specs.inner.Ink.{Coverage, Reciprocal, Dividend};
 ghost use Rattle.page.specs.Page.{over};
-ghost use Rattle.page.specs.inner.Paint.{touch};
+ghost use Rattle.page.specs.inner.Paint.{touch, Lawful, Filled, clamped};
 
 // The width and height of a page, and a clip on it.
 pub struct View {
@@ -102,4 +102,25 @@ pub fn touched(n: u64) -> u64
     ensures { λ r. ⌜ r ≡ touch n ⌝ }
 {
     if 0 < n { 1 } else { 0 }
+}
+
+// Gives columns from to end of row y the level v; hands back how many pixels they are.
+pub fn fill_row(page: &mut [u8], view: View, v: u8, y: usize, from: usize, end: usize) -> u64
+    requires { ⌜ Lawful view (length (now page)) ⌝ }
+    requires { ⌜ (y < view .h) × (from ≤ end) × (end ≤ view .w) ⌝ }
+    ensures { λ t. ⌜ Filled (view .w) (view .h) v y from end (now (page .entry)) (now (page .exit)) t ⌝ }
+{
+    let w = view.w;
+    let a = y * w + from;
+    let e = y * w + end;
+    fill(&mut page[a..e], v);
+    (end - from) as u64
+}
+
+// The column or row of an offset, clamped to lo to hi.
+pub fn clamp_offset(lo: usize, hi: usize, c: u64) -> usize
+    ensures { λ r. ⌜ r ≡ clamped lo hi c ⌝ }
+{
+    let column = numbers::less(c, numbers::ORIGIN);
+    numbers::lesser(hi as u64, numbers::greater(lo as u64, column)) as usize
 }

@@ -1,6 +1,6 @@
 use mathlib.Core.Path.{_≡_}
 use Prim.Native.Nat.{_-_}
-use Rattle.circles.specs.inner.Row.{clamped}
+use Rattle.page.specs.inner.Paint.{clamped}
 use borrow.Author.Needs.{needs}
 use Rattle.circles.proofs.box_of.Statement.{statement}
 use Rattle.circles.proofs.box_of.Tie as tie

@@ -46,10 +46,6 @@ pub record Measured (Y Z : ℕ → ℕ) (b : ℕ) (row : Widths) : Type 0 where
 abbrev pub betweenOn : (ℕ → ℕ) → (ℕ → ℕ) → Ring → ℕ → ℕ → ℕ
 betweenOn Y Z ring x y = between Y Z (apart (ring .cx) (x + 4096)) (apart (ring .cy) (y + 4096))
 
--- the column or row of an offset, clamped to lo to hi
-abbrev pub clamped : ℕ → ℕ → ℕ → ℕ
-clamped lo hi c = min hi (max lo (c - 4096))
-
 -- the columns of a clip nearer than d to the centre begin at leftOf and end before rightOf
 abbrev pub leftOf : View → Ring → ℕ → ℕ
 leftOf view ring d = clamped (view .x0) (view .x1) (ring .cx - d)
@@ -87,6 +83,6 @@ pub record Band (Y Z : ℕ → ℕ) (view : View) (ring : Ring) (y p q r s : ℕ
   pub order : (view .x0 ≤ p) × (p ≤ q) × (q ≤ r) × (r ≤ s) × (s ≤ view .x1)
   pub whole : (x : ℕ) → q ≤ x → x < r → betweenOn Y Z ring x y ≡ 512
 
--- what of the ring lies in columns x0 to x1 and rows y0 to y1 is drawn on l, which gives m, and touches t pixels
-abbrev pub RingDrawn : View → Ring → (ℕ → ℕ) → (ℕ → ℕ) → ℕ → ℕ → ℕ → ℕ → List ℕ → List ℕ → ℕ → Type 0
-RingDrawn view ring Y Z x0 y0 x1 y1 l m t = Drawn (view .w) (view .h) (inkOf (ring .level) 512) (clipped x0 y0 x1 y1 (betweenOn Y Z ring)) l m t
+-- what of the ring lies in columns x0 to x1 and rows y0 to y1 is drawn by an ink on l, which gives m, and touches t pixels
+abbrev pub RingDrawn : (ℕ → ℕ → ℕ) → View → Ring → (ℕ → ℕ) → (ℕ → ℕ) → ℕ → ℕ → ℕ → ℕ → List ℕ → List ℕ → ℕ → Type 0
+RingDrawn ink view ring Y Z x0 y0 x1 y1 l m t = Drawn (view .w) (view .h) ink (clipped x0 y0 x1 y1 (betweenOn Y Z ring)) l m t

@@ -3,7 +3,7 @@ use native.Mathlib.Omega.{arith}
 use lib.ListN.{length}
 use Rattle.page.specs.inner.Paint.{inView}
 use Rattle.page.proofs.Clip.{clip-zero}
-use Rattle.page.proofs.Paint.{drawn-none, drawn-ext}
+use Rattle.page.proofs.Drawn.{drawn-none, drawn-ext}
 use Rattle.lines.specs.inner.Layout.{lineOn, lineInk}
 use Rattle.lines.proofs.Strip.{strip-whole, line-beyond, either-side}
 use borrow.Author.Needs.{needs}

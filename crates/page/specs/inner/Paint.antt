@@ -2,7 +2,7 @@
 use mathlib.Core.Bool.{cond, _&&_}
 use mathlib.Core.Path.{_≡_}
 use mathlib.Core.List.{List}
-use Prim.Native.Nat.{ℕ, _*_, _/_, _%_, _≤_, _<_, min}
+use Prim.Native.Nat.{ℕ, _+_, _-_, _*_, _/_, _%_, _≤_, _<_, min, max}
 use lib.Dec.{ltb, leb}
 use Rattle.numbers.specs.Sum.{sumTo}
 use Rattle.page.specs.Page.{over}
@@ -47,3 +47,16 @@ inView view n = clipped (view .x0) (view .y0) (view .x1) (view .y1) n
 pub record Drawn (w h : ℕ) (ink : ℕ → ℕ → ℕ) (n : ℕ → ℕ → ℕ) (l m : List ℕ) (t : ℕ) : Type 0 where
   pub page : m ≡ painted w ink n l
   pub count : t ≡ touches w h n
+
+-- so it is within a view's clip
+abbrev pub DrawnIn : View → (ℕ → ℕ → ℕ) → (ℕ → ℕ → ℕ) → List ℕ → List ℕ → ℕ → Type 0
+DrawnIn view ink n = Drawn (view .w) (view .h) ink (inView view n)
+
+-- columns a to b of row y hold the level v: they are drawn by every ink that leaves v at a whole coverage d
+abbrev pub Filled : ℕ → ℕ → ℕ → ℕ → ℕ → ℕ → List ℕ → List ℕ → ℕ → Type 0
+Filled w h v y a b l m t =
+    (ink : ℕ → ℕ → ℕ) (d : ℕ) → 0 < d → ((u : ℕ) → ink d u ≡ v) → Drawn w h ink (clipped a y b (y + 1) (λ _ _. d)) l m t
+
+-- the column or row of an offset, clamped to lo to hi
+abbrev pub clamped : ℕ → ℕ → ℕ → ℕ
+clamped lo hi c = min hi (max lo (c - 4096))

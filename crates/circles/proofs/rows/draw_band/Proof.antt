@@ -1,9 +1,9 @@
 -- The three stretches never meet, and together they are the band.
 use Prim.Native.Nat.{_+_, _≤_}
 use native.Mathlib.Omega.{arith}
-use Rattle.page.proofs.Paint.{drawn-count}
+use Rattle.page.proofs.Drawn.{drawn-count, drawn-band}
 use Rattle.circles.specs.inner.Row.{at, betweenOn}
-use Rattle.circles.proofs.Row.{ready-after, drawn-band}
+use Rattle.circles.proofs.Row.{ready-after}
 use borrow.Author.Needs.{needs}
 use Rattle.circles.proofs.rows.draw_band.Statement.{statement}
 use Rattle.circles.proofs.rows.draw_band.Tie as tie

@@ -5,7 +5,8 @@ use native.Mathlib.Omega.{arith}
 use lib.ListN.{length, take, drop}
 use borrow.Rule.Slice.PartMut.{mid-len}
 use Rattle.page.specs.inner.Ink.{inkOf}
-use Rattle.page.proofs.Paint.{row-end, drawn-stretch}
+use Rattle.page.proofs.Paint.{row-end}
+use Rattle.page.proofs.Drawn.{drawn-stretch}
 use Rattle.circles.specs.inner.Row.{at, betweenOn}
 use borrow.Author.Needs.{needs}
 use Rattle.circles.proofs.rows.draw_edge.Statement.{statement}

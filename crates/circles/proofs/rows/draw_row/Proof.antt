@@ -1,7 +1,7 @@
 -- The row is measured by its distance from the centre; outside its bands it has nothing.
 use Prim.Native.Nat.{_+_}
 use native.Mathlib.Omega.{arith}
-use Rattle.page.proofs.Paint.{drawn-count}
+use Rattle.page.proofs.Drawn.{drawn-count}
 use Rattle.coverage.specs.inner.Circle.{apart}
 use Rattle.circles.specs.inner.Row.{at, Measured}
 use Rattle.circles.proofs.Row.{ready-after, solid-band, left-band, right-band, solid-row, hollow-row}

@@ -4,7 +4,8 @@ use Prim.Native.Nat.{_+_, _-_, _≤_}
 use native.Mathlib.Omega.{arith}
 use borrow.Author.Needs.{needs}
 use Rattle.page.proofs.Clip.{clip-zero, clip-rows}
-use Rattle.page.proofs.Paint.{drawn-none, drawn-join, drawn-length, drawn-count}
+use Rattle.page.proofs.Drawn.{drawn-none, drawn-join, drawn-length, drawn-count}
+use Rattle.page.specs.inner.Ink.{inkOf}
 use Rattle.circles.specs.inner.Row.{at, RingDrawn}
 use Rattle.circles.proofs.Row.{ready-after}
 use Rattle.circles.proofs.rows.draw_rows.Statement.{statement}
@@ -14,7 +15,7 @@ abbrev Inv-loop : tie.InvT-loop
 Inv-loop page₀ view ring outer inner end touched₀ y₀ page touched y =
     (view .y0 ≤ y)
     × (y ≤ view .y1)
-    × RingDrawn view ring (at outer) (at inner) (view .x0) (view .y0) (view .x1) y page₀ page touched
+    × RingDrawn (inkOf (ring .level) 512) view ring (at outer) (at inner) (view .x0) (view .y0) (view .x1) y page₀ page touched
 
 abbrev μ-loop : tie.MeasureT-loop
 μ-loop page₀ view ring outer inner end touched₀ y₀ page touched y = view .y1 - y

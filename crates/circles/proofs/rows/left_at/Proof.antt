@@ -1,6 +1,6 @@
 use mathlib.Core.Path.{_∙_, ap}
 use Prim.Native.Nat.{ℕ}
-use Rattle.circles.specs.inner.Row.{clamped}
+use Rattle.page.specs.inner.Paint.{clamped}
 use borrow.Author.Needs.{needs}
 use Rattle.circles.proofs.rows.left_at.Statement.{statement}
 use Rattle.circles.proofs.rows.left_at.Tie as tie

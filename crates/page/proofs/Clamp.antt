@@ -1,8 +1,7 @@
--- Laws of the columns and rows of a clip, and of distances from a centre.
-use Prim.Native.Nat.{ℕ, _+_, _-_, _≤_, _<_}
+-- Laws of the columns and rows of a clip.
+use Prim.Native.Nat.{ℕ, _+_, _≤_, _<_}
 use native.Mathlib.Omega.{arith}
-use Rattle.coverage.specs.inner.Circle.{apart}
-use Rattle.circles.specs.inner.Row.{clamped}
+use Rattle.page.specs.inner.Paint.{clamped}
 
 pub clamped-low : (lo hi c : ℕ) → lo ≤ hi → lo ≤ clamped lo hi c
 clamped-low lo hi c h = omega arith
@@ -25,13 +24,3 @@ between-clamped lo hi c d x h p q = (
   from-clamped lo hi c x (omega (arith, clamped-high lo hi d)) p,
   before-clamped lo hi d x (omega (arith, clamped-low lo hi c h)) q,
 )
-
--- nearer to c than d, or at least as far on its left or on its right
-pub apart-near : (c d x : ℕ) → c - d ≤ x → x < c + d → apart c x < d
-apart-near c d x h k = omega arith
-
-pub apart-left : (c d x : ℕ) → x < c - d → d ≤ apart c x
-apart-left c d x h = omega arith
-
-pub apart-right : (c d x : ℕ) → c + d ≤ x → d ≤ apart c x
-apart-right c d x h = omega arith

@@ -1,7 +1,8 @@
 -- The stretch is lent to `fill`, and the rest of the page stays as it was.
 use Prim.Native.Nat.{_+_, _*_, _≤_}
 use native.Mathlib.Omega.{arith}
-use Rattle.page.proofs.Paint.{row-end, drawn-whole}
+use Rattle.page.proofs.Paint.{row-end}
+use Rattle.page.proofs.Drawn.{drawn-whole}
 use borrow.Author.Needs.{needs}
 use Rattle.circles.proofs.rows.draw_whole.Statement.{statement}
 use Rattle.circles.proofs.rows.draw_whole.Tie as tie
