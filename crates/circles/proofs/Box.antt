@@ -13,7 +13,6 @@ use Rattle.page.proofs.Drawn.{drawn-none, drawn-ext}
 use Rattle.coverage.specs.Circle.{heightOf, chords}
 use Rattle.coverage.specs.inner.Circle.{apart}
 use Rattle.coverage.proofs.Height.{height-most, height-falls, height-rises}
-use Rattle.circles.specs.inner.Circle.{discOn, ringOn}
 use Rattle.circles.specs.inner.Row.{at, between, betweenOn, RingDrawn, Heights, Nested, Reached, Ready, boxed}
 use Rattle.circles.specs.declared.rows.Ring.{Ring}
 use Rattle.circles.proofs.Chords.{chords-far, chords-none, heights-wider}

@@ -8,7 +8,7 @@ use lib.ListN.{length}
 use Rattle.page.specs.inner.Paint.{clipped, Drawn, clamped}
 use Rattle.page.specs.declared.View.{View}
 use Rattle.page.proofs.Clip.{Inside, Outside, left-of, right-of, above, below, clip-ext, clip-shrink, clip-columns}
-use Rattle.page.proofs.Drawn.{drawn-ext, drawn-join, drawn-length}
+use Rattle.page.proofs.Drawn.{drawn-ext, drawn-join, drawn-length, drawn-row}
 use Rattle.coverage.specs.inner.Circle.{apart}
 use Rattle.circles.specs.inner.Row.{betweenOn, Ready, Measured, Band, RingDrawn, leftOf, rightOf}
 use Rattle.circles.specs.declared.rows.Ring.{Ring}

@@ -1,23 +1,63 @@
-use mathlib.Core.Path.{refl}
-use Rattle.circles.proofs.Box.{ring-drawn}
+-- A ring is what lies between its two circles.
+use mathlib.Core.Path.{_≡_, refl, ap}
+use Prim.Native.Nat.{_-_}
+use native.Mathlib.Omega.{arith}
+use Rattle.shapes.specs.inner.Offsets.{pointOf}
+use Rattle.shapes.specs.declared.Point.{Point}
+use Rattle.shapes.specs.declared.Shape.the-variants.{Ring as asShape}
+use Rattle.shapes.proofs.Limits.{ring-lawful, point-kept}
+use Rattle.coverage.specs.Coverage.{rulesOf}
+use Rattle.coverage.specs.inner.OnPage.{shapeOn}
+use Rattle.page.proofs.Drawn.{drawn-same}
+use Rattle.circles.proofs.Shape.{ring-on}
 use borrow.Author.Needs.{needs}
 use Rattle.circles.proofs.draw_ring.Statement.{statement}
 use Rattle.circles.proofs.draw_ring.Tie as tie
 
-sub-t9 : tie.Need-sub-t9
-sub-t9 c = search needs
+-- the centre by its offsets
+centre : (c : tie.After-point-of) → let s = c .before .before .before .before .args .ring in c .point-of .result ≡ pointOf (s .x) (s .y)
+centre c =
+    let told = c .before .before .struct-told .given in
+    point-kept (record { sfits = told .0 .1 }) (record { sfits = told .1 .0 .1 }) (c .point-of .ensures)
+
+point-of-requires : tie.Need-point-of-requires
+point-of-requires c κs = search needs
+
+-- the state at entry
+abbrev start : tie.After-point-of → tie.Start
+start c = c .before .before .before .before
+
+sub-draw-between : tie.Need-sub-draw-between
+sub-draw-between c = let s = start (c .before) in ring-lawful (s .args .ring) (s .pre .1) .most
+
+cast-draw-between : tie.Need-cast-draw-between
+cast-draw-between c = search needs
+
+cast-draw-between-2 : tie.Need-cast-draw-between-2
+cast-draw-between-2 c = search needs
 
 draw-between-requires : tie.Need-draw-between-requires
-draw-between-requires c κs = search needs
+draw-between-requires c κs =
+    let p = c .before .before .before in
+    let s = start p in
+    let w = ring-lawful (s .args .ring) (s .pre .1) in
+    (s .pre .0, rw (centre p) (omega (arith, w .circle .x-in .less)), rw (centre p) (omega (arith, w .circle .y-in .less)), omega arith, w .circle .most)
 
 same-length : tie.Need-same-length
 same-length c = search needs
 
 returns : tie.Need-returns
+unfolding rulesOf
 returns c =
-    let a = c .before .before .before .before .before .args in
-    let d = ring-drawn (a .view) (a .radius) (a .width) _ refl (c .before .before .draw-between .ensures) in
-    (d .page, d .count)
+    let d = c .before .before in
+    let p = d .before .before .before .before in
+    let s = start p in
+    let g = s .args .ring in
+    let centre-is = centre p in
+    drawn-same (shapeOn (asShape g)) (s .pre .0)
+    (ring-on g (record { cx = p .point-of .result .x; cy = p .point-of .result .y; hole = g .radius - g .width; level = s .args .level })
+    (s .pre .1) (ap (λ (c : Point). c .x) centre-is) (ap (λ (c : Point). c .y) centre-is) refl)
+    (d .draw-between .ensures)
 
 pub draw-ring-spec : {M : Type 1} → statement M
-draw-ring-spec = tie.close (tie.spec sub-t9 draw-between-requires same-length returns)
+draw-ring-spec = tie.close (tie.spec point-of-requires sub-draw-between cast-draw-between cast-draw-between-2 draw-between-requires same-length returns)

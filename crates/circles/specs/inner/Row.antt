@@ -4,7 +4,7 @@ use mathlib.Core.List.{List}
 use Prim.Native.Nat.{ℕ, _+_, _*_, _-_, _≤_, _<_, min, max}
 use lib.ListN.{getD}
 use Rattle.page.specs.inner.Ink.{inkOf}
-use Rattle.page.specs.inner.Paint.{clipped, Lawful, Drawn}
+use Rattle.page.specs.inner.Paint.{clipped, Lawful, Drawn, clamped}
 use Rattle.page.specs.declared.View.{View}
 use Rattle.coverage.specs.inner.Circle.{apart}
 use Rattle.coverage.specs.Circle.{chords}

@@ -1,11 +1,11 @@
 -- The stretch is lent to `fill`, and the rest of the page stays as it was.
 use Prim.Native.Nat.{_+_, _*_, _≤_}
 use native.Mathlib.Omega.{arith}
 use Rattle.page.proofs.Paint.{row-end}
 use Rattle.page.proofs.Drawn.{drawn-whole}
 use borrow.Author.Needs.{needs}
-use Rattle.circles.proofs.rows.draw_whole.Statement.{statement}
-use Rattle.circles.proofs.rows.draw_whole.Tie as tie
+use Rattle.page.proofs.fill_row.Statement.{statement}
+use Rattle.page.proofs.fill_row.Tie as tie
 
 -- the row lies on the page
 inside : (c : tie.Start) → c .args .y * c .args .view .w + c .args .view .w ≤ c .args .view .h * c .args .view .w
@@ -44,11 +44,11 @@ same-length c = search needs
 returns : tie.Need-returns
 returns c =
     let a = c .before .before .before .before .before .args in
-    drawn-whole (a .view .w) (a .view .h) (a .level) 512 (a .from) (a .end) (a .y) (a .page .now) _
-    (omega arith) (omega arith) (omega arith) (omega arith) (omega arith) (c .before .before .fill .ensures)
+    drawn-whole (a .view .w) (a .view .h) (a .v) (a .from) (a .end) (a .y) (a .page .now) _
+    (omega arith) (omega arith) (omega arith) (omega arith) (c .before .before .fill .ensures)
 
-pub draw-whole-spec : {M : Type 1} → statement M
-draw-whole-spec =
+pub fill-row-spec : {M : Type 1} → statement M
+fill-row-spec =
     tie.close
     (tie.spec
     mul-a

@@ -1,6 +1,9 @@
 -- The three stretches never meet, and together they are the band.
-use Prim.Native.Nat.{_+_, _≤_}
+use mathlib.Core.Path.{_≡_}
+use Prim.Native.Nat.{ℕ, _+_, _≤_}
 use native.Mathlib.Omega.{arith}
+use Rattle.page.specs.inner.Ink.{inkOf}
+use Rattle.page.proofs.Blend.{blend-whole}
 use Rattle.page.proofs.Drawn.{drawn-count, drawn-band}
 use Rattle.circles.specs.inner.Row.{at, betweenOn}
 use Rattle.circles.proofs.Row.{ready-after}
@@ -8,28 +11,42 @@ use borrow.Author.Needs.{needs}
 use Rattle.circles.proofs.rows.draw_band.Statement.{statement}
 use Rattle.circles.proofs.rows.draw_band.Tie as tie
 
+-- the state at entry, and after each stretch
+abbrev start : tie.After-draw-edge → tie.Start
+start c = c .before .before .before
+
+abbrev left-edge : tie.After-fill-row → tie.After-draw-edge
+left-edge c = c .before .before .before .before
+
+abbrev middle : tie.After-draw-edge2 → tie.After-fill-row
+middle c = c .before .before .before .before
+
+-- a whole blend leaves the level
+whole-ink : (v u : ℕ) → inkOf v 512 512 u ≡ v
+whole-ink v u = blend-whole u v 512 (omega arith)
+
 draw-edge-requires : tie.Need-draw-edge-requires
 draw-edge-requires c κs = search needs
 
-draw-whole-requires : tie.Need-draw-whole-requires
-draw-whole-requires c κs = search needs
+fill-row-requires : tie.Need-fill-row-requires
+fill-row-requires c κs = search needs
 
 draw-edge-requires-2 : tie.Need-draw-edge-requires-2
 draw-edge-requires-2 c κs =
-    let middle = c .before .before .before in
-    let first = middle .before .before .before .before in
-    let s = first .before .before .before in
-    (ready-after (middle .draw-whole .ensures) (ready-after (first .draw-edge .ensures) (s .pre .0)), omega arith)
+    let filled = c .before .before .before in
+    let left = left-edge filled in
+    let s = start left in
+    let d = filled .fill-row .ensures (inkOf (s .args .ring .level) 512) 512 (omega arith) (whole-ink _) in
+    (ready-after d (ready-after (left .draw-edge .ensures) (s .pre .0)), omega arith)
 
 -- no stretch touches more pixels than a page has
-few : (c : tie.After-draw-edge2)
-    → let middle = c .before .before .before .before in
-    middle .before .before .before .before .draw-edge .result + middle .draw-whole .result + c .draw-edge2 .result ≤ 3145728
+few : (c : tie.After-draw-edge2) → left-edge (middle c) .draw-edge .result + middle c .fill-row .result + c .draw-edge2 .result ≤ 3145728
 few c =
-    let middle = c .before .before .before .before in
-    let first = middle .before .before .before .before in
-    let law = first .before .before .before .pre .0 .lawful in
-    omega (arith, drawn-count law (first .draw-edge .ensures), drawn-count law (middle .draw-whole .ensures), drawn-count law (c .draw-edge2 .ensures))
+    let left = left-edge (middle c) in
+    let s = start left in
+    let d = middle c .fill-row .ensures (inkOf (s .args .ring .level) 512) 512 (omega arith) (whole-ink _) in
+    let law = s .pre .0 .lawful in
+    omega (arith, drawn-count law (left .draw-edge .ensures), drawn-count law d, drawn-count law (c .draw-edge2 .ensures))
 
 add-result : tie.Need-add-result
 add-result c = omega (arith, few (c .before .before))
@@ -42,21 +59,22 @@ same-length c = search needs
 
 returns : tie.Need-returns
 returns c =
-    let last = c .before .before in
-    let middle = last .before .before .before .before in
-    let first = middle .before .before .before .before in
-    let s = first .before .before .before in
+    let right = c .before .before in
+    let filled = middle right in
+    let left = left-edge filled in
+    let s = start left in
     let a = s .args in
+    let d = filled .fill-row .ensures (inkOf (a .ring .level) 512) 512 (omega arith) (whole-ink _) in
     drawn-band (betweenOn (at (a .outer .now)) (at (a .inner .now)) (a .ring)) 512 (a .y) (a .p) (a .q) (a .r) (a .s)
     (omega arith) (omega arith) (omega arith) (s .pre .1 .whole)
-    (first .draw-edge .ensures) (middle .draw-whole .ensures) (last .draw-edge2 .ensures)
+    (left .draw-edge .ensures) d (right .draw-edge2 .ensures)
 
 pub draw-band-spec : {M : Type 1} → statement M
 draw-band-spec =
     tie.close
     (tie.spec
     draw-edge-requires
-    draw-whole-requires
+    fill-row-requires
     draw-edge-requires-2
     add-result
     add-result-2
