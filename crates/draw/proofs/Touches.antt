@@ -11,32 +11,18 @@ use lib.ListN.{getD}
 use borrow.Author.Tests.{lt-ltb, le-ltb}
 use Rattle.numbers.proofs.Order.{lt-or-le}
 use Rattle.numbers.proofs.Sum.{sum-ext}
-use Rattle.numbers.proofs.Coordinate.{in-range, pixel-in, pixel-offset}
 use Rattle.shapes.specs.Limits.{shapeRefusal}
-use Rattle.shapes.specs.inner.Offsets.{pointOf}
 use Rattle.shapes.specs.declared.Clip.{Clip}
-use Rattle.shapes.specs.declared.Disc.{Disc}
-use Rattle.shapes.specs.declared.Point.{Point}
-use Rattle.shapes.specs.declared.Ring.{Ring}
 use Rattle.shapes.specs.declared.Shape.{Shape}
-use Rattle.shapes.specs.declared.Shape.the-variants.{Disc as disc, Ring as ring}
-use Rattle.shapes.proofs.Limits.{disc-lawful, ring-lawful}
 use Rattle.coverage.specs.Coverage.{exactN, drawnN, drawnD}
-use Rattle.coverage.proofs.Chord.{disc-drawn, ring-drawn}
 use Rattle.coverage.proofs.Soundness.{sound}
 use Rattle.page.specs.Blend.{blend}
 use Rattle.page.specs.inner.Ink.{inkOf}
-use Rattle.page.specs.inner.Paint.{dot, touch, clipped, painted, touches, inView, Lawful, Drawn}
-use Rattle.page.specs.declared.View.{View}
-use Rattle.page.proofs.Clip.{clip-ext}
+use Rattle.page.specs.inner.Paint.{dot, touch, clipped, painted, touches, inView}
 use Rattle.page.proofs.Over.{over-ext}
-use Rattle.page.proofs.Drawn.{drawn-ext}
-use Rattle.circles.specs.inner.Circle.{discOn, ringOn}
 use Rattle.draw.specs.Touch.{keeps, touched, shapeByte, pageAfter, touchCount}
 use Rattle.coverage.specs.inner.OnPage.{shapeOn}
 use Rattle.draw.specs.inner.View.{viewOf}
-
--- ---- touched pixels
 
 same-test : (m n : ℕ) → (0 < m) ↔ (0 < n) → ltb 0 m ≡ ltb 0 n
 same-test m n e = ⊎-elim (λ h. lt-ltb 0 m h ∙ sym (lt-ltb 0 n (e .0 h))) (λ h. le-ltb 0 m h ∙ sym (le-ltb 0 n (none h))) (lt-or-le 0 m)
@@ -82,37 +68,3 @@ module _ (w h : ℕ) (c : Clip) (v : ℕ) (s : Shape) (lawful : shapeRefusal s �
   pub count-touched : touches w h (inView (viewOf w h c) (shapeOn s)) ≡ touchCount w h c s
   unfolding touches touchCount
   count-touched = sum-ext h _ _ (λ y _. sum-ext w _ _ (λ x _. count x y))
-
--- ---- discs and rings by their own fields, and the offsets of their centres
-
-module _ {view : View} {size : ℕ} (w : Lawful view size) {ink : ℕ → ℕ → ℕ} {l m : List ℕ} {t : ℕ} where
-  -- a coverage that is the shape's on every page
-  on : (n : ℕ → ℕ → ℕ) (s : Shape) → ((x y : ℕ) → x ≤ 4095 → y ≤ 4095 → n x y ≡ shapeOn s x y)
-      → m ≡ painted (view .w) ink (inView view n) l
-      → t ≡ touches (view .w) (view .h) (inView view n)
-      → Drawn (view .w) (view .h) ink (inView view (shapeOn s)) l m t
-  on n s same page count =
-      drawn-ext (inView view (shapeOn s))
-      (clip-ext (view .x0) (view .y0) (view .x1) (view .y1) n (shapeOn s)
-      (λ x y i. same x y (omega (arith, i .right, w .x-most, w .w-most)) (omega (arith, i .bottom, w .y-most, w .h-most))))
-      (record { page = page; count = count })
-
-  pub disc-on : {c : Point} (d : Disc) → shapeRefusal (disc d) ≡ 0 → c ≡ pointOf (d .x) (d .y)
-      → m ≡ painted (view .w) ink (inView view (discOn (d .radius) (c .x) (c .y))) l
-      → t ≡ touches (view .w) (view .h) (inView view (discOn (d .radius) (c .x) (c .y)))
-      → Drawn (view .w) (view .h) ink (inView view (shapeOn (disc d))) l m t
-  unfolding discOn
-  disc-on d z e =
-      on _ (disc d)
-      (λ x y p q. rw (e, ← pixel-offset x p, ← pixel-offset y q)
-      (disc-drawn (in-range (pos x) (pixel-in x p)) (in-range (pos y) (pixel-in y q)) d (disc-lawful d z)))
-
-  pub ring-on : {c : Point} (g : Ring) → shapeRefusal (ring g) ≡ 0 → c ≡ pointOf (g .x) (g .y)
-      → m ≡ painted (view .w) ink (inView view (ringOn (g .radius) (g .width) (c .x) (c .y))) l
-      → t ≡ touches (view .w) (view .h) (inView view (ringOn (g .radius) (g .width) (c .x) (c .y)))
-      → Drawn (view .w) (view .h) ink (inView view (shapeOn (ring g))) l m t
-  unfolding ringOn discOn
-  ring-on g z e =
-      on _ (ring g)
-      (λ x y p q. rw (e, ← pixel-offset x p, ← pixel-offset y q)
-      (ring-drawn (in-range (pos x) (pixel-in x p)) (in-range (pos y) (pixel-in y q)) g (ring-lawful g z)))

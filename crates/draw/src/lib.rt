@@ -5,10 +5,9 @@ use shapes::Shape;
 ghost use mathlib.Core.Path.{_≡_};
 ghost use lib.ListN.{length};
 ghost use Rattle.shapes.specs.Limits.{shapeRefusal};
-ghost use Rattle.shapes.specs.declared.Shape.the-variants.{Disc as asDisc, Ring as asRing};
 ghost use Rattle.coverage.specs.Coverage.{drawnD};
 ghost use Rattle.page.specs.inner.Ink.{inkOf};
-ghost use Rattle.page.specs.inner.Paint.{inView, Lawful, Drawn};
+ghost use Rattle.page.specs.inner.Paint.{Lawful, DrawnIn};
 ghost use Rattle.draw.specs.Draw.{drawRefusal, shapeOutcome, shapePage};
 ghost use Rattle.coverage.specs.inner.OnPage.{shapeOn};
 ghost use Rattle.draw.specs.inner.View.{viewOf};
@@ -37,41 +36,15 @@ fn draw_refusal(w: u16, h: u16, size: usize, clip: Clip, shape: Shape) -> u8
     shapes::shape_refusal(shape)
 }
 
-// Draws a disc given by its own fields.
-fn draw_disc(page: &mut [u8], view: View, disc: shapes::Disc, level: u8) -> u64
-    requires { ⌜ Lawful view (length (now page)) × (shapeRefusal (asDisc disc) ≡ 0) ⌝ }
-    ensures { λ t. ⌜ Drawn (view .w) (view .h) (inkOf level 512) (inView view (shapeOn (asDisc disc))) (now (page .entry)) (now (page .exit)) t ⌝ }
-{
-    let c = shapes::point_of(disc.x, disc.y);
-    circles::draw_disc(page, view, c.x, c.y, disc.radius as u64, level)
-}
-
-// Draws a ring given by its own fields.
-fn draw_ring(page: &mut [u8], view: View, ring: shapes::Ring, level: u8) -> u64
-    requires { ⌜ Lawful view (length (now page)) × (shapeRefusal (asRing ring) ≡ 0) ⌝ }
-    ensures { λ t. ⌜ Drawn (view .w) (view .h) (inkOf level 512) (inView view (shapeOn (asRing ring))) (now (page .entry)) (now (page .exit)) t ⌝ }
-{
-    let c = shapes::point_of(ring.x, ring.y);
-    circles::draw_ring(
-        page,
-        view,
-        c.x,
-        c.y,
-        ring.radius as u64,
-        ring.width as u64,
-        level,
-    )
-}
-
 // Draws a lawful shape; hands back how many pixels it touched.
 pub fn draw_lawful(page: &mut [u8], view: View, level: u8, shape: Shape) -> u64
     requires { ⌜ Lawful view (length (now page)) × (shapeRefusal shape ≡ 0) ⌝ }
-    ensures { λ t. ⌜ Drawn (view .w) (view .h) (inkOf level (drawnD shape)) (inView view (shapeOn shape)) (now (page .entry)) (now (page .exit)) t ⌝ }
+    ensures { λ t. ⌜ DrawnIn view (inkOf level (drawnD shape)) (shapeOn shape) (now (page .entry)) (now (page .exit)) t ⌝ }
 {
     match shape {
         Shape::Line(line) => lines::draw_line(page, view, line, level),
-        Shape::Disc(disc) => draw_disc(page, view, disc, level),
-        Shape::Ring(ring) => draw_ring(page, view, ring, level),
+        Shape::Disc(disc) => circles::draw_disc(page, view, disc, level),
+        Shape::Ring(ring) => circles::draw_ring(page, view, ring, level),
     }
 }
 

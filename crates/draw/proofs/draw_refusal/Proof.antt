@@ -1,34 +1,81 @@
+-- The tests are the definition's, in its order; each return has found the ones before it clear.
+use mathlib.Core.Bool.{cond}
+use mathlib.Core.Path.{_≡_}
+use Prim.Native.Nat.{_*_}
 use native.Mathlib.Nat.{mul-le-mul}
 use native.Mathlib.Omega.{arith}
 use borrow.Author.Tests.{lt-ltb, le-ltb}
+use lib.Dec.{ltb}
+use Rattle.shapes.specs.Limits.{sizeRefusal, clipRefusal, shapeRefusal}
+use Rattle.draw.specs.Draw.{drawRefusal}
 use Rattle.draw.proofs.Refusals.{draw-refusals}
 use borrow.Author.Needs.{needs}
 use Rattle.draw.proofs.draw_refusal.Statement.{statement}
 use Rattle.draw.proofs.draw_refusal.Tie as tie
 
+-- the states behind the tests
+abbrev sized : tie.Else2 → tie.After-size-refusal
+sized c = c .before .before
+
+abbrev clipped : tie.Else3 → tie.Else2
+clipped c = c .before .before
+
+-- the definition, test by test
+tests : (c : tie.Start)
+    → let a = c .args in
+    drawRefusal (a .w) (a .h) (a .size) (a .clip) (a .shape)
+    ≡ cond (ltb 0 (sizeRefusal (a .w) (a .h))) (sizeRefusal (a .w) (a .h))
+    (cond (ltb (a .size) (a .w * a .h)) 21 (cond (ltb 0 (clipRefusal (a .w) (a .h) (a .clip))) (clipRefusal (a .w) (a .h) (a .clip)) (shapeRefusal (a .shape))))
+tests c = let a = c .args in draw-refusals (a .w) (a .h) (a .size) (a .clip) (a .shape)
+
 size-refusal-requires : tie.Need-size-refusal-requires
 size-refusal-requires c κs = search needs
 
 returns : tie.Need-returns
-returns c = simp (draw-refusals (c .before .before .args .w) (c .before .before .args .h) (c .before .before .args .size) (c .before .before .args .clip) (c .before .before .args .shape), ← c .before .size-refusal .ensures, lt-ltb _ _ (c .if1 .taken))
+returns c = simp (tests (c .before .before), ← c .before .size-refusal .ensures, lt-ltb _ _ (c .if1 .taken))
 
 mul-if2 : tie.Need-mul-if2
-mul-if2 c = omega (arith, mul-le-mul {n₁ = c .before .before .args .w} {m₁ = c .before .before .args .h} {n₂ = 65535} {m₂ = 65535} (omega (arith, c .before .before .fits .w)) (omega (arith, c .before .before .fits .h)))
+mul-if2 c =
+    let s = c .before .before in
+    omega (arith, mul-le-mul {n₁ = s .args .w} {m₁ = s .args .h} {n₂ = 65535} {m₂ = 65535} (omega (arith, s .fits .w)) (omega (arith, s .fits .h)))
 
 returns-2 : tie.Need-returns-2
-returns-2 c = simp (draw-refusals (c .before .before .before .args .w) (c .before .before .before .args .h) (c .before .before .before .args .size) (c .before .before .before .args .clip) (c .before .before .before .args .shape), ← c .before .before .size-refusal .ensures, le-ltb _ _ (c .before .if1 .left), lt-ltb _ _ (c .if2 .taken))
+returns-2 c =
+    let size = c .before .before in
+    simp (tests (size .before), ← size .size-refusal .ensures, le-ltb _ _ (c .before .if1 .left), lt-ltb _ _ (c .if2 .taken))
 
 clip-refusal-requires : tie.Need-clip-refusal-requires
 clip-refusal-requires c κs = search needs
 
 returns-3 : tie.Need-returns-3
-returns-3 c = simp (draw-refusals (c .before .before .before .before .before .args .w) (c .before .before .before .before .before .args .h) (c .before .before .before .before .before .args .size) (c .before .before .before .before .before .args .clip) (c .before .before .before .before .before .args .shape), ← c .before .before .before .before .size-refusal .ensures, le-ltb _ _ (c .before .before .before .if1 .left), le-ltb _ _ (c .before .before .if2 .left), ← c .before .clip-refusal .ensures, lt-ltb _ _ (c .if3 .taken))
+returns-3 c =
+    let room = c .before .before in
+    let size = sized room in
+    simp (
+      tests (size .before),
+      ← size .size-refusal .ensures,
+      le-ltb _ _ (room .before .if1 .left),
+      le-ltb _ _ (room .if2 .left),
+      ← c .before .clip-refusal .ensures,
+      lt-ltb _ _ (c .if3 .taken),
+    )
 
 shape-refusal-requires : tie.Need-shape-refusal-requires
 shape-refusal-requires c κs = search needs
 
 returns-4 : tie.Need-returns-4
-returns-4 c = simp (draw-refusals (c .before .before .before .before .before .before .args .w) (c .before .before .before .before .before .before .args .h) (c .before .before .before .before .before .before .args .size) (c .before .before .before .before .before .before .args .clip) (c .before .before .before .before .before .before .args .shape), ← c .before .before .before .before .before .size-refusal .ensures, le-ltb _ _ (c .before .before .before .before .if1 .left), le-ltb _ _ (c .before .before .before .if2 .left), ← c .before .before .clip-refusal .ensures, le-ltb _ _ (c .before .if3 .left)) (c .shape-refusal .ensures)
+returns-4 c =
+    let clip = c .before in
+    let room = clipped clip in
+    let size = sized room in
+    simp (
+      tests (size .before),
+      ← size .size-refusal .ensures,
+      le-ltb _ _ (room .before .if1 .left),
+      le-ltb _ _ (room .if2 .left),
+      ← clip .before .clip-refusal .ensures,
+      le-ltb _ _ (clip .if3 .left),
+    ) (c .shape-refusal .ensures)
 
 pub draw-refusal-spec : {M : Type 1} → statement M
 draw-refusal-spec =
