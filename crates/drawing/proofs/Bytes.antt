@@ -17,7 +17,7 @@ use Rattle.coverage.proofs.Soundness.{sound}
 use Rattle.page.specs.Page.{over}
 use Rattle.page.proofs.Over.{over-part, getD-over}
 use Rattle.page.proofs.Paint.{row-end, row-of, column-of}
-use Rattle.lists.specs.Format.{headerAt}
+use Rattle.lists.specs.Format.{headerAt, basisOf}
 use Rattle.lists.specs.List.{Records, accepted, refused, recordsOf, checkedAs, checkedOf}
 use Rattle.lists.specs.declared.format.Header.{Header}
 use Rattle.lists.specs.declared.check.Checked.the-variants.{Accepted, Refused}
@@ -112,35 +112,35 @@ module _ (s l : List ℕ) (d : Header) (e : Accepted d ≡ checkedOf s (length l
   pub lent : d .w * d .h ≡ length (take (d .w * d .h) l)
   lent = let fits = room s (length l) d e in simp length-take (omega arith)
 
-  pub lent-drawable : Drawable s (d .w) (d .h) (length (take (d .w * d .h) l))
+  pub lent-drawable : Drawable s (basisOf d) (length (take (d .w * d .h) l))
   lent-drawable = let k = lent in record { walk = list-walkable s (length l) d e; room = omega arith }
 
   pub few : d .w * d .h < 2 ^ 64
   few =
-      let law = view-lawful (d .w) (d .h) _ (start (d .w) (d .h) .clip) (lent-drawable .walk .page) (lent-drawable .room) (start-clip (d .w) (d .h)) in
+      let law = view-lawful (d .w) (d .h) _ (start (basisOf d) .clip) (lent-drawable .walk .page) (lent-drawable .room) (start-clip (basisOf d)) in
       omega (arith, mul-le-mul {n₁ = d .w} {m₁ = d .h} {n₂ = 1024} {m₂ = 1024} (law .w-most) (law .h-most))
 
   -- the list on the part of the page that is lent left p, and touched t pixels
-  module _ (p : List ℕ) (t : ℕ) (painted-are : p ≡ touchedPage (d .w) (d .background) (listDrawings (d .w) (d .h) s) (take (d .w * d .h) l))
-      (count : t ≡ shapesCount (d .w) (d .h) (listDrawings (d .w) (d .h) s)) (lawful : AllLawful (listDrawings (d .w) (d .h) s)) (byte : d .background ≤ 255) where
-    count-is : t ≡ shapesCount (d .w) (d .h) (drawings (d .w) (d .h) records)
+  module _ (p : List ℕ) (t : ℕ) (painted-are : p ≡ touchedPage (d .w) (d .background) (listDrawings (basisOf d) s) (take (d .w * d .h) l))
+      (count : t ≡ shapesCount (d .w) (d .h) (listDrawings (basisOf d) s)) (lawful : AllLawful (listDrawings (basisOf d) s)) (byte : d .background ≤ 255) where
+    count-is : t ≡ shapesCount (d .w) (d .h) (drawings (basisOf d) records)
     count-is = count ∙ ap (shapesCount (d .w) (d .h)) (drawings-are s (length l) d e)
 
-    page-is : p ++ drop (d .w * d .h) l ≡ drawnPage (d .w) (d .h) (d .background) (drawings (d .w) (d .h) records) l
+    page-is : p ++ drop (d .w * d .h) l ≡ drawnPage (d .w) (d .h) (d .background) (drawings (basisOf d) records) l
     page-is =
-        page-whole (d .w) (d .h) (d .background) (drawings (d .w) (d .h) records) l p (room s (length l) d e)
+        page-whole (d .w) (d .h) (d .background) (drawings (basisOf d) records) l p (room s (length l) d e)
         (painted-are ∙ ap (λ (ds : List Drawing). touchedPage (d .w) (d .background) ds (take (d .w * d .h) l)) (drawings-are s (length l) d e))
 
     records-claim : Claimed d (accepted records) l (Drawn (d .w) (d .h) t) (p ++ drop (d .w * d .h) l)
     unfolding listAnswer answerByPixels listPage Bounded
     records-claim =
-        (ap (Drawn (d .w) (d .h)) count-is, (page-is, (bounded, ap (Drawn (d .w) (d .h)) (count-is ∙ counts-same (d .w) (d .h) (drawings (d .w) (d .h) records)))))
+        (ap (Drawn (d .w) (d .h)) count-is, (page-is, (bounded, ap (Drawn (d .w) (d .h)) (count-is ∙ counts-same (d .w) (d .h) (drawings (basisOf d) records)))))
       where
         bounded : (x y : ℕ) → x < d .w → y < d .h
-            → ByteBounded (getD (p ++ drop (d .w * d .h) l) (y * d .w + x) 0) (d .background) (touchesAt (drawings (d .w) (d .h) records) x y)
+            → ByteBounded (getD (p ++ drop (d .w * d .h) l) (y * d .w + x) 0) (d .background) (touchesAt (drawings (basisOf d) records) x y)
         bounded x y i j =
-            subst (λ (m : List ℕ). ByteBounded (getD m (y * d .w + x) 0) (d .background) (touchesAt (drawings (d .w) (d .h) records) x y)) (sym page-is)
-            (all-near (d .w) (d .h) (d .background) (drawings (d .w) (d .h) records) l (room s (length l) d e) byte (subst AllLawful (drawings-are s (length l) d e) lawful) x y i j)
+            subst (λ (m : List ℕ). ByteBounded (getD m (y * d .w + x) 0) (d .background) (touchesAt (drawings (basisOf d) records) x y)) (sym page-is)
+            (all-near (d .w) (d .h) (d .background) (drawings (basisOf d) records) l (room s (length l) d e) byte (subst AllLawful (drawings-are s (length l) d e) lawful) x y i j)
 
     pub accepted-claim : Claimed (headerAt s) (recordsOf s (length l)) l (Drawn (d .w) (d .h) t) (p ++ drop (d .w * d .h) l)
     accepted-claim =

@@ -7,6 +7,7 @@ use lib.ListN.{length, getD, take, drop}
 use Rattle.shapes.specs.Limits.{shapeRefusal, recordRefusal}
 use Rattle.shapes.specs.declared.Shape.{Shape}
 use Rattle.shapes.specs.declared.Setting.the-variants.{Clip as clip, Level as level}
+use Rattle.shapes.specs.declared.Basis.{Basis}
 use Rattle.shapes.specs.declared.Record.{Record}
 use Rattle.shapes.specs.declared.Record.the-variants.{End as end, Setting as setting, Shape as shape}
 use Rattle.coverage.specs.Coverage.{drawnD}
@@ -39,31 +40,31 @@ shape-drawn {w} {h} f s {l} byte law z d =
     (d .page ∙ page-touched w h (f .clip) (f .level) s z l, omega arith, drawn-count law d, omega arith)
 
 -- a record without a refusal, drawn at a level that is a byte, in front of lawful drawings
-pub lawful-then : (w h : ℕ) (f : Settings) (r : Record) (ds : List Drawing) → recordRefusal w h r ≡ 0 → f .level ≤ 255 → AllLawful ds → AllLawful (drawingOf f r ++ ds)
+pub lawful-then : (b : Basis) (f : Settings) (r : Record) (ds : List Drawing) → recordRefusal b r ≡ 0 → f .level ≤ 255 → AllLawful ds → AllLawful (drawingOf f r ++ ds)
 unfolding recordRefusal drawingOf AllLawful
-lawful-then w h f end ds z k a = a
-lawful-then w h f (setting (clip c)) ds z k a = a
-lawful-then w h f (setting (level v)) ds z k a = a
-lawful-then w h f (shape s) ds z k a = (k, z, a)
+lawful-then b f end ds z k a = a
+lawful-then b f (setting (clip c)) ds z k a = a
+lawful-then b f (setting (level v)) ds z k a = a
+lawful-then b f (shape s) ds z k a = (k, z, a)
 
 -- ---- the walk
 
 -- at a place, with the settings f, the page l and the count t: what is left makes goal and total of them
-pub record Remaining (w h : ℕ) (list : List ℕ) (all : List Drawing) (goal : List ℕ) (total place : ℕ) (f : Settings) (l : List ℕ) (t : ℕ) : Type 0 where
+pub record Remaining (b : Basis) (list : List ℕ) (all : List Drawing) (goal : List ℕ) (total place : ℕ) (f : Settings) (l : List ℕ) (t : ℕ) : Type 0 where
   pub records : List Record
-  pub left : Left w h list place f records
-  pub page : goal ≡ shapesPage w (drawingsFrom f records) l
-  pub count : total ≡ t + shapesCount w h (drawingsFrom f records)
+  pub left : Left b list place f records
+  pub page : goal ≡ shapesPage (b .w) (drawingsFrom f records) l
+  pub count : total ≡ t + shapesCount (b .w) (b .h) (drawingsFrom f records)
   pub lawful : AllLawful (drawingsFrom f records) → AllLawful all
-  pub room : w * h ≤ length l
+  pub room : b .w * b .h ≤ length l
   pub few : t ≤ 1048576 * place
 
-pub remaining-start : (w h : ℕ) (list l : List ℕ) → Drawable list w h (length l)
-    → Remaining w h list (listDrawings w h list) (shapesPage w (listDrawings w h list) l) (shapesCount w h (listDrawings w h list)) headerSize (start w h) l 0
-remaining-start w h list l d =
+pub remaining-start : (b : Basis) (list l : List ℕ) → Drawable list b (length l)
+    → Remaining b list (listDrawings b list) (shapesPage (b .w) (listDrawings b list) l) (shapesCount (b .w) (b .h) (listDrawings b list)) headerSize (start b) l 0
+remaining-start b list l d =
     record {
-      records = recordsIn (listRecords w h list);
-      left = left-start w h list (d .walk);
+      records = recordsIn (listRecords b list);
+      left = left-start b list (d .walk);
       page = refl;
       count = omega arith;
       lawful = λ a. a;
@@ -71,23 +72,23 @@ remaining-start w h list l d =
       few = omega arith;
     }
 
-module _ {w h total place t : ℕ} {list goal l : List ℕ} {all : List Drawing} {f : Settings} (p : Remaining w h list all goal total place f l t) where
+module _ {b : Basis} {total place t : ℕ} {list goal l : List ℕ} {all : List Drawing} {f : Settings} (p : Remaining b list all goal total place f l t) where
   -- the end record: all is drawn
   pub remaining-end : getD list place 0 ≡ 0 → (l ≡ goal) × (t ≡ total) × AllLawful all
   unfolding AllLawful drawingsFrom drawingOf shapesPage shapesCount
   remaining-end z =
       let e = left-end (p .left) z in
-      let page : goal ≡ l = p .page ∙ ap (λ (rs : List Record). shapesPage w (drawingsFrom f rs) l) e in
-      let count : total ≡ t + 0 = p .count ∙ ap (λ (rs : List Record). t + shapesCount w h (drawingsFrom f rs)) e in
+      let page : goal ≡ l = p .page ∙ ap (λ (rs : List Record). shapesPage (b .w) (drawingsFrom f rs) l) e in
+      let count : total ≡ t + 0 = p .count ∙ ap (λ (rs : List Record). t + shapesCount (b .w) (b .h) (drawingsFrom f rs)) e in
       (sym page, omega arith, p .lawful (subst (λ (rs : List Record). AllLawful (drawingsFrom f rs)) (sym e) tt))
 
   module _ {r : Record} (found : r ≡ recordAt (take (length list - place) (drop place list))) where
-    pub lawful-record : Lawful (viewOf w h (f .clip)) (length l) × (recordRefusal w h r ≡ 0)
-    lawful-record = (view-lawful w h (length l) (f .clip) (left-page (p .left)) (p .room) (p .left .clip), left-lawful (p .left) found)
+    pub lawful-record : Lawful (viewOf (b .w) (b .h) (f .clip)) (length l) × (recordRefusal b r ≡ 0)
+    lawful-record = (view-lawful (b .w) (b .h) (length l) (f .clip) (left-page (p .left)) (p .room) (p .left .clip), left-lawful (p .left) found)
 
     -- it is no end: it is drawn, and the rest is left
     module _ (some : getD list place 0 ≡ 0 → ⊥) {m : List ℕ} {k n : ℕ} {g : Settings}
-        (drawn : (m ≡ shapesPage w (drawingOf f r) l) × (k ≡ shapesCount w h (drawingOf f r)) × (k ≤ 1048576) × (f .level ≤ 255))
+        (drawn : (m ≡ shapesPage (b .w) (drawingOf f r) l) × (k ≡ shapesCount (b .w) (b .h) (drawingOf f r)) × (k ≤ 1048576) × (f .level ≤ 255))
         (next : g ≡ inForce f r) (size : n ≡ kindSize (getD list place 0)) where
       abbrev rest : List Record
       rest = left-next (p .left) found some next size .records-left
@@ -97,30 +98,30 @@ module _ {w h total place t : ℕ} {list goal l : List ℕ} {all : List Drawing}
       drawings-then =
           ap (drawingsFrom f) (left-next (p .left) found some next size .same) ∙ ap (λ (q : Settings). drawingOf f r ++ drawingsFrom q rest) (sym next)
 
-      page-left : goal ≡ shapesPage w (drawingsFrom g rest) m
+      page-left : goal ≡ shapesPage (b .w) (drawingsFrom g rest) m
       page-left =
           p .page
-          ∙ ap (λ ds. shapesPage w ds l) drawings-then
-          ∙ page-then w (drawingOf f r) (drawingsFrom g rest) l
-          ∙ ap (shapesPage w (drawingsFrom g rest)) (sym (drawn .0))
+          ∙ ap (λ ds. shapesPage (b .w) ds l) drawings-then
+          ∙ page-then (b .w) (drawingOf f r) (drawingsFrom g rest) l
+          ∙ ap (shapesPage (b .w) (drawingsFrom g rest)) (sym (drawn .0))
 
-      count-left : total ≡ t + k + shapesCount w h (drawingsFrom g rest)
+      count-left : total ≡ t + k + shapesCount (b .w) (b .h) (drawingsFrom g rest)
       count-left =
-          let e = p .count ∙ ap (λ ds. t + shapesCount w h ds) drawings-then in
-          let j = count-then w h (drawingOf f r) (drawingsFrom g rest) in
+          let e = p .count ∙ ap (λ ds. t + shapesCount (b .w) (b .h) ds) drawings-then in
+          let j = count-then (b .w) (b .h) (drawingOf f r) (drawingsFrom g rest) in
           let d = drawn .1 in
           omega arith
 
       lawful-left : AllLawful (drawingsFrom g rest) → AllLawful all
-      lawful-left a = p .lawful (subst AllLawful (sym drawings-then) (lawful-then w h f r (drawingsFrom g rest) (left-lawful (p .left) found) (drawn .3) a))
+      lawful-left a = p .lawful (subst AllLawful (sym drawings-then) (lawful-then b f r (drawingsFrom g rest) (left-lawful (p .left) found) (drawn .3) a))
 
-      pub remaining-next : Remaining w h list all goal total (place + n) g m (t + k)
+      pub remaining-next : Remaining b list all goal total (place + n) g m (t + k)
       remaining-next =
           let i = left-inside (p .left) in
           let d = drawn .2 in
           let few = p .few in
           let room = p .room in
-          let same = ap length (drawn .0) ∙ length-shapes w (drawingOf f r) l in
+          let same = ap length (drawn .0) ∙ length-shapes (b .w) (drawingOf f r) l in
           record {
             records = rest;
             left = left-next (p .left) found some next size .left;

@@ -1,6 +1,7 @@
 // A whole drawing list on a lent page.
 use lists::check::Checked;
 use lists::format::HEADER_SIZE;
+use shapes::Basis;
 use shapes::Clip;
 use shapes::Record;
 ghost use mathlib.Core.Path.{_≡_};
@@ -24,23 +25,25 @@ pub enum Answer {
 }
 
 // Draws a record, if it is a shape; hands back how many pixels it touched.
-fn draw_record(page: &mut [u8], w: u16, h: u16, clip: Clip, level: u8, rec: Record) -> u64
-    requires { ⌜ Lawful (viewOf w h clip) (length (now page)) × (recordRefusal w h rec ≡ 0) ⌝ }
-    ensures { λ t. ⌜ (now (page .exit) ≡ shapesPage w (drawingOf (settingsOf clip level) rec) (now (page .entry))) × (t ≡ shapesCount w h (drawingOf (settingsOf clip level) rec)) × (t ≤ 1048576) × (level ≤ 255) ⌝ }
+fn draw_record(page: &mut [u8], basis: Basis, clip: Clip, level: u8, rec: Record) -> u64
+    requires { ⌜ Lawful (viewOf (basis .w) (basis .h) clip) (length (now page)) × (recordRefusal basis rec ≡ 0) ⌝ }
+    ensures { λ t. ⌜ (now (page .exit) ≡ shapesPage (basis .w) (drawingOf (settingsOf clip level) rec) (now (page .entry))) × (t ≡ shapesCount (basis .w) (basis .h) (drawingOf (settingsOf clip level) rec)) × (t ≤ 1048576) × (level ≤ 255) ⌝ }
 {
     match rec {
         Record::Setting(_) => 0,
-        Record::Shape(shape) => { draw::draw_lawful(page, draw::view_of(w, h, clip), level, shape) }
+        Record::Shape(shape) => {
+            draw::draw_lawful(page, draw::view_of(basis.w, basis.h, clip), level, shape)
+        }
         Record::End => 0,
     }
 }
 
 // Draws the records of a list one after the other; hands back how many pixels they touched.
-fn draw_records(page: &mut [u8], list: &[u8], w: u16, h: u16) -> u64
-    requires { ⌜ Drawable (now list) w h (length (now page)) ⌝ }
-    ensures { λ t. ⌜ (now (page .exit) ≡ shapesPage w (listDrawings w h (now (list .entry))) (now (page .entry))) × (t ≡ shapesCount w h (listDrawings w h (now (list .entry)))) × AllLawful (listDrawings w h (now (list .entry))) ⌝ }
+fn draw_records(page: &mut [u8], list: &[u8], basis: Basis) -> u64
+    requires { ⌜ Drawable (now list) basis (length (now page)) ⌝ }
+    ensures { λ t. ⌜ (now (page .exit) ≡ shapesPage (basis .w) (listDrawings basis (now (list .entry))) (now (page .entry))) × (t ≡ shapesCount (basis .w) (basis .h) (listDrawings basis (now (list .entry)))) × AllLawful (listDrawings basis (now (list .entry))) ⌝ }
 {
-    let mut settings = lists::settings::first_settings(w, h);
+    let mut settings = lists::settings::first_settings(basis);
     let mut touched: u64 = 0;
     let mut place = HEADER_SIZE;
     loop {
@@ -50,19 +53,19 @@ fn draw_records(page: &mut [u8], list: &[u8], w: u16, h: u16) -> u64
         }
         let rec = lists::format::decode(&list[place..]);
         let clip = settings.clip;
-        touched += draw_record(page, w, h, clip, settings.level, rec);
+        touched += draw_record(page, basis, clip, settings.level, rec);
         settings = lists::settings::settings_after(settings, rec);
         place += lists::format::kind_size(kind);
     }
 }
 
 // Fills a page with the background and draws a list on it; hands back how many pixels were touched.
-fn paint(page: &mut [u8], list: &[u8], w: u16, h: u16, background: u8) -> u64
-    requires { ⌜ Drawable (now list) w h (length (now page)) ⌝ }
-    ensures { λ t. ⌜ (now (page .exit) ≡ touchedPage w background (listDrawings w h (now (list .entry))) (now (page .entry))) × (t ≡ shapesCount w h (listDrawings w h (now (list .entry)))) × AllLawful (listDrawings w h (now (list .entry))) × (background ≤ 255) ⌝ }
+fn paint(page: &mut [u8], list: &[u8], basis: Basis, background: u8) -> u64
+    requires { ⌜ Drawable (now list) basis (length (now page)) ⌝ }
+    ensures { λ t. ⌜ (now (page .exit) ≡ touchedPage (basis .w) background (listDrawings basis (now (list .entry))) (now (page .entry))) × (t ≡ shapesCount (basis .w) (basis .h) (listDrawings basis (now (list .entry)))) × AllLawful (listDrawings basis (now (list .entry))) × (background ≤ 255) ⌝ }
 {
     page::fill(page, background);
-    draw_records(page, list, w, h)
+    draw_records(page, list, basis)
 }
 
 // Draws a list on a page, or refuses it and leaves the page as it was. The list is checked whole before a byte of the page is written.
@@ -77,7 +80,8 @@ pub fn draw_list(page: &mut [u8], list: &[u8]) -> Answer
         Checked::Refused { refusal, place } => Answer::Refused { refusal, place },
         Checked::Accepted(header) => {
             let n = (header.w as usize) * (header.h as usize);
-            let touched = paint(&mut page[..n], list, header.w, header.h, header.background);
+            let basis = lists::format::basis_of(header);
+            let touched = paint(&mut page[..n], list, basis, header.background);
             Answer::Drawn {
                 w: header.w,
                 h: header.h,

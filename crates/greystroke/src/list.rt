@@ -9,6 +9,7 @@ use shapes::Shape;
 ghost use mathlib.Core.Path.{_≡_};
 ghost use mathlib.Core.Bool.{cond};
 ghost use lib.IntN.{pos};
+ghost use Rattle.shapes.specs.Limits.{sized};
 ghost use Rattle.lists.specs.Read.{readingOf};
 ghost use Rattle.lists.specs.List.{checkedOf};
 ghost use Rattle.greystroke.specs.Lists.{recordAnswer, readAnswer, checkAnswer};
@@ -192,9 +193,9 @@ fn check_answer(checked: Checked) -> CheckAnswer
 // Reads the record at the front of some bytes.
 #[no_mangle]
 pub extern "C" fn greystroke_read_record(list: &[u8], w: u16, h: u16) -> ReadAnswer
-    ensures { λ r. ⌜ r ≡ readAnswer (readingOf w h (now (list .entry))) ⌝ }
+    ensures { λ r. ⌜ r ≡ readAnswer (readingOf (sized w h) (now (list .entry))) ⌝ }
 {
-    read_answer(lists::read::read_record(list, w, h))
+    read_answer(lists::read::read_record(list, shapes::Basis { w, h }))
 }
 
 // Checks a whole list for a page of so many bytes.

@@ -7,8 +7,9 @@ use native.Mathlib.Omega.{arith}
 use borrow.Author.Tests.{lt-ltb, le-ltb}
 use lib.ListN.{length, drop, length-drop}
 use Rattle.numbers.proofs.Order.{lt-or-le, eq-or-ne}
+use Rattle.shapes.specs.declared.Basis.{Basis}
 use Rattle.shapes.specs.declared.Record.{Record}
-use Rattle.lists.specs.Format.{headerSize, headerAt, kindAt, sizeAt, recordAt}
+use Rattle.lists.specs.Format.{headerSize, headerAt, basisOf, kindAt, sizeAt, recordAt}
 use Rattle.lists.specs.Read.{readRefusal}
 use Rattle.lists.specs.List.{Records, accepted, refused, onto, behindEnd, headerRefusal, recordsFrom, recordsOf, checkedAs, checkedOf}
 use Rattle.lists.specs.declared.format.Header.{Header}
@@ -17,10 +18,10 @@ use Rattle.lists.proofs.Refusals.{Readable, readable}
 use Rattle.lists.proofs.Walk.{at-refusal, at-end, at-record}
 
 -- the bytes s are the records rs, the end record last
-pub data Holds (w h : ℕ) : List ℕ → List Record → Type 0 where
-  last : {s : List ℕ} → readRefusal w h s ≡ 0 → kindAt s ≡ 0 → length s ≡ sizeAt s → Holds w h s (recordAt s ∷ [])
-  more : {s : List ℕ} {rs : List Record} → readRefusal w h s ≡ 0 → (kindAt s ≡ 0 → ⊥) → Holds w h (drop (sizeAt s) s) rs
-      → Holds w h s (recordAt s ∷ rs)
+pub data Holds (b : Basis) : List ℕ → List Record → Type 0 where
+  last : {s : List ℕ} → readRefusal b s ≡ 0 → kindAt s ≡ 0 → length s ≡ sizeAt s → Holds b s (recordAt s ∷ [])
+  more : {s : List ℕ} {rs : List Record} → readRefusal b s ≡ 0 → (kindAt s ≡ 0 → ⊥) → Holds b (drop (sizeAt s) s) rs
+      → Holds b s (recordAt s ∷ rs)
 
 never : {f place : ℕ} {rs : List Record} → refused f place ≡ accepted rs → ⊥
 never e = let z : _≡_ {A = ℕ} 0 1 = cc in omega arith
@@ -42,26 +43,26 @@ nothing-behind s place rs e = go (lt-or-le 0 (length s))
     go (inl h) = absurd (never (rw (lt-ltb 0 (length s) h) at e))
     go (inr h) = let k : accepted [] ≡ accepted rs = rw (le-ltb 0 (length s) h) at e in (omega arith, cc)
 
-pub holds : (w h fuel : ℕ) (s : List ℕ) (place : ℕ) (rs : List Record) → recordsFrom fuel w h s place ≡ accepted rs → Holds w h s rs
+pub holds : (b : Basis) (fuel : ℕ) (s : List ℕ) (place : ℕ) (rs : List Record) → recordsFrom fuel b s place ≡ accepted rs → Holds b s rs
 unfolding recordsFrom
-holds w h zero s place rs e = absurd (never e)
-holds w h (suc fuel) s place rs e =
-    go (holds w h fuel (drop (sizeAt s) s) (place + sizeAt s)) (lt-or-le 0 (readRefusal w h s)) (eq-or-ne (kindAt s) 0)
+holds b zero s place rs e = absurd (never e)
+holds b (suc fuel) s place rs e =
+    go (holds b fuel (drop (sizeAt s) s) (place + sizeAt s)) (lt-or-le 0 (readRefusal b s)) (eq-or-ne (kindAt s) 0)
   where
-    go : ((qs : List Record) → recordsFrom fuel w h (drop (sizeAt s) s) (place + sizeAt s) ≡ accepted qs → Holds w h (drop (sizeAt s) s) qs)
-        → (0 < readRefusal w h s) ⊎ (readRefusal w h s ≤ 0) → (kindAt s ≡ 0) ⊎ (kindAt s ≡ 0 → ⊥) → Holds w h s rs
-    go after (inl f) k = absurd (never (sym (at-refusal w h fuel s place f) ∙ e))
+    go : ((qs : List Record) → recordsFrom fuel b (drop (sizeAt s) s) (place + sizeAt s) ≡ accepted qs → Holds b (drop (sizeAt s) s) qs)
+        → (0 < readRefusal b s) ⊎ (readRefusal b s ≤ 0) → (kindAt s ≡ 0) ⊎ (kindAt s ≡ 0 → ⊥) → Holds b s rs
+    go after (inl f) k = absurd (never (sym (at-refusal b fuel s place f) ∙ e))
     go after (inr f) (inl k) =
-        let none : readRefusal w h s ≡ 0 = omega arith in
-        let b = behind (recordAt s) (behindEnd (drop (sizeAt s) s) (place + sizeAt s)) rs (sym (at-end w h fuel s place none k) ∙ e) in
-        let z = nothing-behind (drop (sizeAt s) s) (place + sizeAt s) (b .rest) (b .is) in
+        let none : readRefusal b s ≡ 0 = omega arith in
+        let t = behind (recordAt s) (behindEnd (drop (sizeAt s) s) (place + sizeAt s)) rs (sym (at-end b fuel s place none k) ∙ e) in
+        let z = nothing-behind (drop (sizeAt s) s) (place + sizeAt s) (t .rest) (t .is) in
         let n = length-drop (sizeAt s) s in
-        let fits = readable w h s none .whole .fits in
-        subst (Holds w h s) (sym (b .same ∙ ap (λ (qs : List Record). recordAt s ∷ qs) (z .1))) (last none k (omega arith))
+        let fits = readable b s none .whole .fits in
+        subst (Holds b s) (sym (t .same ∙ ap (λ (qs : List Record). recordAt s ∷ qs) (z .1))) (last none k (omega arith))
     go after (inr f) (inr k) =
-        let none : readRefusal w h s ≡ 0 = omega arith in
-        let b = behind (recordAt s) (recordsFrom fuel w h (drop (sizeAt s) s) (place + sizeAt s)) rs (sym (at-record w h fuel s place none k) ∙ e) in
-        subst (Holds w h s) (sym (b .same)) (more none k (after (b .rest) (b .is)))
+        let none : readRefusal b s ≡ 0 = omega arith in
+        let t = behind (recordAt s) (recordsFrom fuel b (drop (sizeAt s) s) (place + sizeAt s)) rs (sym (at-record b fuel s place none k) ∙ e) in
+        subst (Holds b s) (sym (t .same)) (more none k (after (t .rest) (t .is)))
 
 -- ---- a whole list
 pub list-headed : (s : List ℕ) (n : ℕ) (rs : List Record) → recordsOf s n ≡ accepted rs → headerRefusal s n ≡ 0
@@ -72,11 +73,11 @@ list-headed s n rs e = go (lt-or-le 0 (headerRefusal s n))
     go (inl h) = absurd (never (rw (lt-ltb 0 (headerRefusal s n) h) at e))
     go (inr h) = omega arith
 
-pub list-holds : (s : List ℕ) (n : ℕ) (rs : List Record) → recordsOf s n ≡ accepted rs → Holds (headerAt s .w) (headerAt s .h) (drop headerSize s) rs
+pub list-holds : (s : List ℕ) (n : ℕ) (rs : List Record) → recordsOf s n ≡ accepted rs → Holds (basisOf (headerAt s)) (drop headerSize s) rs
 unfolding recordsOf
 list-holds s n rs e =
     let none = list-headed s n rs e in
-    holds (headerAt s .w) (headerAt s .h) (suc (length s)) (drop headerSize s) headerSize rs (rw none at e)
+    holds (basisOf (headerAt s)) (suc (length s)) (drop headerSize s) headerSize rs (rw none at e)
 
 -- the check's answer for it
 pub record AcceptedAs (s : List ℕ) (n : ℕ) (d : Header) : Type 0 where
@@ -92,20 +93,20 @@ checked-accepted s n d e = go (recordsOf s n) refl e
     go (refused g place) k f = absurd (let z : _≡_ {A = ℕ} 0 1 = cc in omega arith)
 
 -- ---- a walk: each record stands whole, and is followed by the rest unless it is the end record
-module _ (w h : ℕ) (s : List ℕ) where
-  pub holds-readable : (rs : List Record) → Holds w h s rs → Readable w h s
-  holds-readable rs (last none k all) = readable w h s none
-  holds-readable rs (more none k p) = readable w h s none
+module _ (b : Basis) (s : List ℕ) where
+  pub holds-readable : (rs : List Record) → Holds b s rs → Readable b s
+  holds-readable rs (last none k all) = readable b s none
+  holds-readable rs (more none k p) = readable b s none
 
-  pub holds-end : (rs : List Record) → Holds w h s rs → kindAt s ≡ 0 → rs ≡ recordAt s ∷ []
+  pub holds-end : (rs : List Record) → Holds b s rs → kindAt s ≡ 0 → rs ≡ recordAt s ∷ []
   holds-end rs (last none k all) e = refl
   holds-end rs (more none k p) e = absurd (k e)
 
   pub record Next (rs : List Record) : Type 0 where
     pub rest : List Record
     pub same : rs ≡ recordAt s ∷ rest
-    pub left : Holds w h (drop (sizeAt s) s) rest
+    pub left : Holds b (drop (sizeAt s) s) rest
 
-  pub holds-next : (rs : List Record) → Holds w h s rs → (kindAt s ≡ 0 → ⊥) → Next rs
+  pub holds-next : (rs : List Record) → Holds b s rs → (kindAt s ≡ 0 → ⊥) → Next rs
   holds-next rs (last none k all) f = absurd (f k)
   holds-next rs (more {rs = qs} none k p) f = record { rest = qs; same = refl; left = p }

@@ -8,6 +8,7 @@ use borrow.Author.Tests.{le-leb}
 use lib.ListN.{length, getD, take, drop, length-drop}
 use lib.Seq.{take-all, drop-drop, getD-drop}
 use Rattle.shapes.specs.Limits.{offPage, sizeRefusal, clipRefusal, recordRefusal}
+use Rattle.shapes.specs.declared.Basis.{Basis}
 use Rattle.shapes.specs.declared.Record.{Record}
 use Rattle.shapes.specs.declared.Setting.the-variants.{Clip as clip, Level as level}
 use Rattle.shapes.specs.declared.Record.the-variants.{End as end, Setting as setting, Shape as shape}
@@ -22,16 +23,16 @@ use Rattle.lists.specs.declared.settings.Settings.{Settings}
 -- ---- the clip in force stays on the page
 
 -- the clip at the start is the whole page
-pub start-clip : (w h : ℕ) → clipRefusal w h (start w h .clip) ≡ 0
+pub start-clip : (b : Basis) → clipRefusal (b .w) (b .h) (start b .clip) ≡ 0
 unfolding clipRefusal offPage start
-start-clip w h = simp (le-leb 0 w (omega arith), le-leb w w (omega arith), le-leb 0 h (omega arith), le-leb h h (omega arith))
+start-clip b = simp (le-leb 0 (b .w) (omega arith), le-leb (b .w) (b .w) (omega arith), le-leb 0 (b .h) (omega arith), le-leb (b .h) (b .h) (omega arith))
 
-pub clip-kept : (w h : ℕ) (f : Settings) (r : Record) → recordRefusal w h r ≡ 0 → clipRefusal w h (f .clip) ≡ 0 → clipRefusal w h (inForce f r .clip) ≡ 0
+pub clip-kept : (b : Basis) (f : Settings) (r : Record) → recordRefusal b r ≡ 0 → clipRefusal (b .w) (b .h) (f .clip) ≡ 0 → clipRefusal (b .w) (b .h) (inForce f r .clip) ≡ 0
 unfolding recordRefusal inForce
-clip-kept w h f end z k = k
-clip-kept w h f (setting (clip c)) z k = z
-clip-kept w h f (setting (level v)) z k = k
-clip-kept w h f (shape s) z k = k
+clip-kept b f end z k = k
+clip-kept b f (setting (clip c)) z k = z
+clip-kept b f (setting (level v)) z k = k
+clip-kept b f (shape s) z k = k
 
 -- ---- what is left
 
@@ -39,28 +40,28 @@ pub end-record : (s : List ℕ) → kindAt s ≡ 0 → recordAt s ≡ end
 unfolding decoded
 end-record s z = rw z
 
-pub record Left (w h : ℕ) (list : List ℕ) (place : ℕ) (f : Settings) (records : List Record) : Type 0 where
-  pub holds : Holds w h (drop place list) records
-  pub clip : clipRefusal w h (f .clip) ≡ 0
+pub record Left (b : Basis) (list : List ℕ) (place : ℕ) (f : Settings) (records : List Record) : Type 0 where
+  pub holds : Holds b (drop place list) records
+  pub clip : clipRefusal (b .w) (b .h) (f .clip) ≡ 0
   pub most : length list ≤ 65536
 
 -- at the start all is left
-pub left-start : (w h : ℕ) (list : List ℕ) → Walkable list w h → Left w h list headerSize (start w h) (recordsIn (listRecords w h list))
+pub left-start : (b : Basis) (list : List ℕ) → Walkable list b → Left b list headerSize (start b) (recordsIn (listRecords b list))
 unfolding listRecords
-left-start w h list d =
-    record { holds = holds w h (suc (length list)) (drop headerSize list) headerSize _ (d .is); clip = start-clip w h; most = d .most }
+left-start b list d =
+    record { holds = holds b (suc (length list)) (drop headerSize list) headerSize _ (d .is); clip = start-clip b; most = d .most }
 
-module _ {w h place : ℕ} {list : List ℕ} {f : Settings} {records : List Record} (p : Left w h list place f records) where
+module _ {b : Basis} {place : ℕ} {list : List ℕ} {f : Settings} {records : List Record} (p : Left b list place f records) where
   abbrev here : List ℕ
   here = drop place list
 
   pub left-kind : kindAt here ≡ getD list place 0
   left-kind = getD-drop place list 0 0 ∙ ap (λ (i : ℕ). getD list i 0) (omega arith)
 
-  readable-here : Readable w h here
-  readable-here = holds-readable w h here records (p .holds)
+  readable-here : Readable b here
+  readable-here = holds-readable b here records (p .holds)
 
-  pub left-page : sizeRefusal w h ≡ 0
+  pub left-page : sizeRefusal (b .w) (b .h) ≡ 0
   left-page = readable-here .page
 
   pub left-inside : (place < length list) × (kindSize (getD list place 0) + place ≤ length list) × (0 < kindSize (getD list place 0))
@@ -73,7 +74,7 @@ module _ {w h place : ℕ} {list : List ℕ} {f : Settings} {records : List Reco
 
   -- the end record is the last
   pub left-end : getD list place 0 ≡ 0 → records ≡ end ∷ []
-  left-end z = holds-end w h here records (p .holds) (left-kind ∙ z) ∙ ap (λ (r : Record). r ∷ []) (end-record here (left-kind ∙ z))
+  left-end z = holds-end b here records (p .holds) (left-kind ∙ z) ∙ ap (λ (r : Record). r ∷ []) (end-record here (left-kind ∙ z))
 
   all-here : take (length list - place) (drop place list) ≡ here
   all-here = take-all (length list - place) (drop place list) (le-of-eq (length-drop place list))
@@ -86,18 +87,18 @@ module _ {w h place : ℕ} {list : List ℕ} {f : Settings} {records : List Reco
     pub left-found : r ≡ recordAt here
     left-found = found ∙ ap recordAt all-here
 
-    pub left-lawful : recordRefusal w h r ≡ 0
-    left-lawful = ap (recordRefusal w h) left-found ∙ readable-here .lawful
+    pub left-lawful : recordRefusal b r ≡ 0
+    left-lawful = ap (recordRefusal b) left-found ∙ readable-here .lawful
 
     -- and is no end: the rest is left
     module _ (some : getD list place 0 ≡ 0 → ⊥) {n : ℕ} {g : Settings} (next : g ≡ inForce f r) (size : n ≡ kindSize (getD list place 0)) where
-      rest : Next w h here records
-      rest = holds-next w h here records (p .holds) (λ e. some (sym left-kind ∙ e))
+      rest : Next b here records
+      rest = holds-next b here records (p .holds) (λ e. some (sym left-kind ∙ e))
 
       pub record Step : Type 0 where
         pub records-left : List Record
         pub same : records ≡ r ∷ records-left
-        pub left : Left w h list (place + n) g records-left
+        pub left : Left b list (place + n) g records-left
 
       pub left-next : Step
       left-next =
@@ -107,10 +108,10 @@ module _ {w h place : ℕ} {list : List ℕ} {f : Settings} {records : List Reco
             left =
                 record {
                   holds =
-                      subst (λ (s : List ℕ). Holds w h s (rest .rest))
+                      subst (λ (s : List ℕ). Holds b s (rest .rest))
                       (drop-drop (sizeAt here) place list ∙ ap (λ (j : ℕ). drop (place + j) list) (ap kindSize left-kind ∙ sym size))
                       (rest .left);
-                  clip = subst (λ (q : Settings). clipRefusal w h (q .clip) ≡ 0) (sym next) (clip-kept w h f r left-lawful (p .clip));
+                  clip = subst (λ (q : Settings). clipRefusal (b .w) (b .h) (q .clip) ≡ 0) (sym next) (clip-kept b f r left-lawful (p .clip));
                   most = p .most;
                 };
           }

@@ -11,11 +11,12 @@ use lib.Seq.{drop-at, length-take-le}
 use Rattle.numbers.specs.Coordinate.{inRange, bitsOf, signedOf, wordOf}
 use Rattle.numbers.proofs.Integer.{sfits-diff}
 use Rattle.numbers.proofs.Coordinate.{in-range, signed-bits, word-bytes}
-use Rattle.shapes.specs.Limits.{outside, offRange, sizeRefusal, shapeRefusal, recordRefusal}
+use Rattle.shapes.specs.Limits.{outside, offRange, sized, sizeRefusal, shapeRefusal, recordRefusal}
 use Rattle.shapes.specs.declared.Line.{Line}
 use Rattle.shapes.specs.declared.Shape.{Shape}
 use Rattle.shapes.specs.declared.Shape.the-variants.{Line as line, Disc as disc, Ring as ring}
 use Rattle.shapes.specs.declared.Setting.the-variants.{Clip as clip, Level as level}
+use Rattle.shapes.specs.declared.Basis.{Basis}
 use Rattle.shapes.specs.declared.Record.{Record}
 use Rattle.shapes.specs.declared.Record.the-variants.{End as end, Setting as setting, Shape as shape}
 use Rattle.lists.specs.Format.{kindOf, fieldsOf, recordBytes, coordinates, lineAt, sizeAt, decoded, recordAt}
@@ -67,25 +68,25 @@ module _ (t : List ℕ) where
       let near = or-clear (outside (g .x)) (outside (g .y)) (clear (offRange (ring g)) 6 _ e .0) in
       λ i. shape (ring (record { x = coordinate-back (g .x) (near .0) i; y = coordinate-back (g .y) (near .1) i; radius = g .radius; width = g .width }))
 
-  pub record-back : (w h : ℕ) (r : Record) → recordRefusal w h r ≡ 0 → recordAt (recordBytes r ++ t) ≡ r
+  pub record-back : (b : Basis) (r : Record) → recordRefusal b r ≡ 0 → recordAt (recordBytes r ++ t) ≡ r
   unfolding kindOf fieldsOf decoded recordRefusal
-  record-back w h end e = refl
-  record-back w h (setting (clip c)) e =
+  record-back b end e = refl
+  record-back b (setting (clip c)) e =
       λ i. setting (clip (record { x0 = word-bytes (c .x0) i; y0 = word-bytes (c .y0) i; x1 = word-bytes (c .x1) i; y1 = word-bytes (c .y1) i }))
-  record-back w h (setting (level v)) e = refl
-  record-back w h (shape s) e = shape-back s e
+  record-back b (setting (level v)) e = refl
+  record-back b (shape s) e = shape-back s e
 
   -- and it is read without a refusal
-  pub no-refusal : (w h : ℕ) (r : Record) → sizeRefusal w h ≡ 0 → recordRefusal w h r ≡ 0 → readRefusal w h (recordBytes r ++ t) ≡ 0
+  pub no-refusal : (b : Basis) (r : Record) → sizeRefusal (b .w) (b .h) ≡ 0 → recordRefusal b r ≡ 0 → readRefusal b (recordBytes r ++ t) ≡ 0
   unfolding readRefusal
-  no-refusal w h r page lawful =
+  no-refusal b r page lawful =
       let size = record-size r in
       let long = length-append (recordBytes r) t in
-      simp (page, ne-eqb (length (recordBytes r ++ t)) 0 (λ e. omega arith), ne-eqb (sizeAt (recordBytes r ++ t)) 0 (λ e. omega arith), le-ltb (length (recordBytes r ++ t)) (sizeAt (recordBytes r ++ t)) (omega arith), ap (recordRefusal w h) (record-back w h r lawful) ∙ lawful)
+      simp (page, ne-eqb (length (recordBytes r ++ t)) 0 (λ e. omega arith), ne-eqb (sizeAt (recordBytes r ++ t)) 0 (λ e. omega arith), le-ltb (length (recordBytes r ++ t)) (sizeAt (recordBytes r ++ t)) (omega arith), ap (recordRefusal b) (record-back b r lawful) ∙ lawful)
 
-  pub read-bytes : (w h : ℕ) (r : Record) → sizeRefusal w h ≡ 0 → recordRefusal w h r ≡ 0 → readingOf w h (recordBytes r ++ t) ≡ Found r
+  pub read-bytes : (b : Basis) (r : Record) → sizeRefusal (b .w) (b .h) ≡ 0 → recordRefusal b r ≡ 0 → readingOf b (recordBytes r ++ t) ≡ Found r
   unfolding readingOf
-  read-bytes w h r page lawful = simp (no-refusal w h r page lawful) (ap Found (record-back w h r lawful))
+  read-bytes b r page lawful = simp (no-refusal b r page lawful) (ap Found (record-back b r lawful))
 
 -- ---- the bytes of a list from the place on
 
@@ -96,10 +97,10 @@ drop-put l place bs h =
 
 -- where the writer refuses nothing, the record is read at the place where it was written
 pub read-written : (l : List ℕ) (place w h : ℕ) (r : Record) → recordWritten l place w h r .refusal ≡ 0
-    → readingOf w h (drop place (recordList l place w h r)) ≡ Found r
+    → readingOf (sized w h) (drop place (recordList l place w h r)) ≡ Found r
 read-written l place w h r e =
     let f = written-refusal l place w h r e in
-    let p = writable (length l) place w h r f in
-    ap (λ (m : List ℕ). readingOf w h (drop place m)) (sym (record-done l place w h r f .1))
-    ∙ ap (readingOf w h) (drop-put l place (recordBytes r) (omega (arith, p .room .inside)))
-    ∙ read-bytes (drop (place + length (recordBytes r)) l) w h r (p .page) (p .lawful)
+    let p = writable (length l) place (sized w h) r f in
+    ap (λ (m : List ℕ). readingOf (sized w h) (drop place m)) (sym (record-done l place w h r f .1))
+    ∙ ap (readingOf (sized w h)) (drop-put l place (recordBytes r) (omega (arith, p .room .inside)))
+    ∙ read-bytes (drop (place + length (recordBytes r)) l) (sized w h) r (p .page) (p .lawful)

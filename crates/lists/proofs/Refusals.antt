@@ -11,6 +11,7 @@ use Rattle.shapes.specs.Limits.{sizeRefusal, shapeRefusal, recordRefusal, offRa
 use Rattle.shapes.proofs.Limits.{clear, tried-clear, or-clear}
 use Rattle.shapes.specs.declared.Shape.{Shape}
 use Rattle.shapes.specs.declared.Shape.the-variants.{Line as line, Disc as disc, Ring as ring}
+use Rattle.shapes.specs.declared.Basis.{Basis}
 use Rattle.shapes.specs.declared.Record.{Record}
 use Rattle.shapes.specs.declared.Record.the-variants.{End as end, Setting as setting, Shape as shape}
 use Rattle.lists.specs.Format.{version, wordAt, headerAt, sizeAt, recordAt}
@@ -20,19 +21,19 @@ use Rattle.lists.specs.List.{hasMark, headerRefusal}
 
 -- ---- one record
 
-pub record Readable (w h : ℕ) (s : List ℕ) : Type 0 where
-  pub page : sizeRefusal w h ≡ 0
+pub record Readable (b : Basis) (s : List ℕ) : Type 0 where
+  pub page : sizeRefusal (b .w) (b .h) ≡ 0
   pub whole : Whole s
-  pub lawful : recordRefusal w h (recordAt s) ≡ 0
+  pub lawful : recordRefusal b (recordAt s) ≡ 0
 
-pub readable : (w h : ℕ) (s : List ℕ) → readRefusal w h s ≡ 0 → Readable w h s
+pub readable : (b : Basis) (s : List ℕ) → readRefusal b s ≡ 0 → Readable b s
 unfolding readRefusal
-readable w h s e =
-    let page = tried-clear (sizeRefusal w h) _ e in
+readable b s e =
+    let page = tried-clear (sizeRefusal (b .w) (b .h)) _ e in
     let some = clear (eqb (length s) 0) 4 _ (page .1) in
     let known = clear (eqb (sizeAt s) 0) 3 _ (some .1) in
     let fits = clear (ltb (length s) (sizeAt s)) 4 _ (known .1) in
-    let lawful = tried-clear (recordRefusal w h (recordAt s)) 0 (fits .1) in
+    let lawful = tried-clear (recordRefusal b (recordAt s)) 0 (fits .1) in
     record { page = page .0; whole = record { known = positive (eqb-false _ _ (known .0)); fits = ltb-false _ _ (fits .0) }; lawful = lawful .0 }
   where
     positive : {n : ℕ} → (n ≡ 0 → ⊥) → 0 < n
@@ -54,11 +55,11 @@ one-byte-shape (ring g) e =
     let k : g .width ≤ g .radius = ltb-false _ _ (or-clear (ltb (g .width) 1) (ltb (g .radius) (g .width)) (width .0) .1) in
     (r, omega arith)
 
-pub one-byte : (w h : ℕ) (r : Record) → recordRefusal w h r ≡ 0 → OneByteRecord r
+pub one-byte : (b : Basis) (r : Record) → recordRefusal b r ≡ 0 → OneByteRecord r
 unfolding recordRefusal
-one-byte w h end e = tt
-one-byte w h (setting g) e = tt
-one-byte w h (shape s) e = one-byte-shape s e
+one-byte b end e = tt
+one-byte b (setting g) e = tt
+one-byte b (shape s) e = one-byte-shape s e
 
 -- ---- the header of a list, for a page of n bytes
 

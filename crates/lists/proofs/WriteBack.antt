@@ -10,6 +10,7 @@ use lib.ListN.{length, getD, take, drop, length-append, length-drop, take-append
 use lib.Seq.{take-at, drop-append-add, drop-drop, drop-length, getD-drop, length-take-le, take-all}
 use Rattle.numbers.specs.Coordinate.{bitsOf, signedOf, wordOf, bytesOf}
 use Rattle.numbers.proofs.Coordinate.{bits-signed, bytes-word}
+use Rattle.shapes.specs.Limits.{sized}
 use Rattle.shapes.specs.declared.Record.{Record}
 use Rattle.lists.specs.Format.{kindSize, kindOf, fieldsOf, headerBytes, recordBytes, wordAt, headerAt, kindAt, sizeAt, decoded, recordAt}
 use Rattle.lists.specs.inner.Record.{Whole}
@@ -101,34 +102,34 @@ put-put l place bs cs h =
     ∙ ap₂ (λ (x : List ℕ) (k : ℕ). x ++ drop k l) (append-assoc (take place l) bs cs) next
 
 -- ---- the records, one after the other
-module _ (w h : ℕ) (s : List ℕ) (none : readRefusal w h s ≡ 0) (b : AllBytes s) (m : List ℕ) (place : ℕ) (low : 10 ≤ place)
+module _ (w h : ℕ) (s : List ℕ) (none : readRefusal (sized w h) s ≡ 0) (b : AllBytes s) (m : List ℕ) (place : ℕ) (low : 10 ≤ place)
     (inside : place + sizeAt s ≤ length m) (most : place + sizeAt s ≤ 65536) where
   long : length (recordBytes (recordAt s)) ≡ sizeAt s
   long =
-      let p = readable w h s none .whole in
+      let p = readable (sized w h) s none .whole in
       ap length (record-again s b p) ∙ length-take-le (sizeAt s) s (p .fits)
 
   done : (record { refusal = 0; place = place + length (recordBytes (recordAt s)); w = w; h = h } ≡ recordWritten m place w h (recordAt s))
       × (putAt place (recordBytes (recordAt s)) m ≡ recordList m place w h (recordAt s))
   done =
-      let p = readable w h s none in
+      let p = readable (sized w h) s none in
       let n = long in
-      record-done m place w h (recordAt s) (refusal-none (length m) place w h (recordAt s) (record { page = p .page; lawful = p .lawful; room = record { behind = low; inside = omega arith; most = omega arith } }))
+      record-done m place w h (recordAt s) (refusal-none (length m) place (sized w h) (recordAt s) (record { page = p .page; lawful = p .lawful; room = record { behind = low; inside = omega arith; most = omega arith } }))
 
   step-list : recordList m place w h (recordAt s) ≡ putAt place (take (sizeAt s) s) m
-  step-list = sym (done .1) ∙ ap (λ (bs : List ℕ). putAt place bs m) (record-again s b (readable w h s none .whole))
+  step-list = sym (done .1) ∙ ap (λ (bs : List ℕ). putAt place bs m) (record-again s b (readable (sized w h) s none .whole))
 
   step-place : recordWritten m place w h (recordAt s) .place ≡ place + sizeAt s
   step-place = ap (λ (r : Written). r .place) (sym (done .0)) ∙ ap (λ (n : ℕ). place + n) long
 
-records-again : {w h : ℕ} {s : List ℕ} {rs : List Record} → Holds w h s rs → AllBytes s → (m : List ℕ) (place : ℕ) → 10 ≤ place
+records-again : {w h : ℕ} {s : List ℕ} {rs : List Record} → Holds (sized w h) s rs → AllBytes s → (m : List ℕ) (place : ℕ) → 10 ≤ place
     → place + length s ≤ length m → place + length s ≤ 65536 → recordsList m place w h rs ≡ putAt place s m
 unfolding recordsList
 records-again {w} {h} (last {s} none k all) b m place low inside most =
     step-list w h s none b m place low (omega arith) (omega arith)
     ∙ ap (λ (bs : List ℕ). putAt place bs m) (take-all (sizeAt s) s (omega arith))
 records-again {w} {h} (more {s} {rs} none k p) b m place low inside most =
-    let fits = readable w h s none .whole .fits in
+    let fits = readable (sized w h) s none .whole .fits in
     let n = length-take-le (sizeAt s) s fits in
     let d = length-drop (sizeAt s) s in
     let same = put-length m place (take (sizeAt s) s) (omega arith) in

@@ -10,7 +10,8 @@ use lib.Dec.{ltb}
 use lib.ListN.{length, take, drop, length-append, length-drop}
 use lib.Seq.{length-take-le}
 use Rattle.numbers.proofs.Order.{lt-or-le}
-use Rattle.shapes.specs.Limits.{sizeRefusal, recordRefusal}
+use Rattle.shapes.specs.Limits.{sized, sizeRefusal, recordRefusal}
+use Rattle.shapes.specs.declared.Basis.{Basis}
 use Rattle.shapes.specs.declared.Record.{Record}
 use Rattle.lists.specs.Format.{headerBytes, recordBytes}
 use Rattle.lists.specs.Write.{putAt, tooFew, headerWriteRefusal, recordWriteRefusal, headerWritten, headerList, recordWritten, recordList}
@@ -33,12 +34,12 @@ module _ (l : List ℕ) (place w h : ℕ) where
   unfolding headerWritten headerList
   header-done d e = rw e (refl, refl)
 
-  module _ (r : Record) {f : ℕ} (e : recordWriteRefusal (length l) place w h r ≡ f) where
+  module _ (r : Record) {f : ℕ} (e : recordWriteRefusal (length l) place (sized w h) r ≡ f) where
     pub record-refused : 0 < f → (unmoved f ≡ recordWritten l place w h r) × (l ≡ recordList l place w h r)
     unfolding recordWritten recordList
     record-refused k = rw (e, lt-ltb 0 f k) (refl, refl)
 
-  pub record-done : (r : Record) → recordWriteRefusal (length l) place w h r ≡ 0
+  pub record-done : (r : Record) → recordWriteRefusal (length l) place (sized w h) r ≡ 0
       → (record { refusal = 0; place = place + length (recordBytes r); w = w; h = h } ≡ recordWritten l place w h r)
       × (putAt place (recordBytes r) l ≡ recordList l place w h r)
   unfolding recordWritten recordList
@@ -57,32 +58,32 @@ room n place size e =
     record { behind = ltb-false _ _ (both .0); inside = omega arith; most = omega arith }
 
 -- ---- a record that is written
-pub record Writable (n place w h : ℕ) (r : Record) : Type 0 where
-  pub page : sizeRefusal w h ≡ 0
-  pub lawful : recordRefusal w h r ≡ 0
+pub record Writable (n place : ℕ) (b : Basis) (r : Record) : Type 0 where
+  pub page : sizeRefusal (b .w) (b .h) ≡ 0
+  pub lawful : recordRefusal b r ≡ 0
   pub room : Room n place (length (recordBytes r))
 
-pub writable : (n place w h : ℕ) (r : Record) → recordWriteRefusal n place w h r ≡ 0 → Writable n place w h r
+pub writable : (n place : ℕ) (b : Basis) (r : Record) → recordWriteRefusal n place b r ≡ 0 → Writable n place b r
 unfolding recordWriteRefusal
-writable n place w h r e =
-    let page = tried-clear (sizeRefusal w h) _ e in
-    let lawful = tried-clear (recordRefusal w h r) _ (page .1) in
+writable n place b r e =
+    let page = tried-clear (sizeRefusal (b .w) (b .h)) _ e in
+    let lawful = tried-clear (recordRefusal b r) _ (page .1) in
     let last = clear (ltb place 10 || tooFew n (place + length (recordBytes r))) 21 0 (lawful .1) in
     record { page = page .0; lawful = lawful .0; room = room n place (length (recordBytes r)) (last .0) }
 
 -- a refusal of 0 says that nothing was refused
-pub written-refusal : (l : List ℕ) (place w h : ℕ) (r : Record) → recordWritten l place w h r .refusal ≡ 0 → recordWriteRefusal (length l) place w h r ≡ 0
+pub written-refusal : (l : List ℕ) (place w h : ℕ) (r : Record) → recordWritten l place w h r .refusal ≡ 0 → recordWriteRefusal (length l) place (sized w h) r ≡ 0
 unfolding recordWritten
-written-refusal l place w h r e = go (recordWriteRefusal (length l) place w h r) e
+written-refusal l place w h r e = go (recordWriteRefusal (length l) place (sized w h) r) e
   where
     go : (f : ℕ) → cond (ltb 0 f) (unmoved l place w h f) (record { refusal = 0; place = place + length (recordBytes r); w = w; h = h }) .refusal ≡ 0 → f ≡ 0
     go zero k = refl
     go (suc f) k = rw (lt-ltb 0 (suc f) (omega arith)) at k
 
 -- and a record with room for it is not refused
-pub refusal-none : (n place w h : ℕ) (r : Record) → Writable n place w h r → recordWriteRefusal n place w h r ≡ 0
+pub refusal-none : (n place : ℕ) (b : Basis) (r : Record) → Writable n place b r → recordWriteRefusal n place b r ≡ 0
 unfolding recordWriteRefusal
-refusal-none n place w h r p =
+refusal-none n place b r p =
     simp (p .page, p .lawful, le-ltb place 10 (p .room .behind), le-ltb (min n 65536) (place + length (recordBytes r)) (omega (arith, p .room .inside, p .room .most)))
 
 pub header-room : (n : ℕ) (d : Header) → headerWriteRefusal n d ≡ 0 → 10 ≤ n
@@ -117,10 +118,10 @@ header-length l d = go (lt-or-le 0 (headerWriteRefusal (length l) d))
         ap length (sym (header-done l 0 0 0 d none .1)) ∙ put-length l 0 (headerBytes d) (omega arith)
 
 pub record-length : (l : List ℕ) (place w h : ℕ) (r : Record) → length (recordList l place w h r) ≡ length l
-record-length l place w h r = go (lt-or-le 0 (recordWriteRefusal (length l) place w h r))
+record-length l place w h r = go (lt-or-le 0 (recordWriteRefusal (length l) place (sized w h) r))
   where
-    go : (0 < recordWriteRefusal (length l) place w h r) ⊎ (recordWriteRefusal (length l) place w h r ≤ 0) → length (recordList l place w h r) ≡ length l
+    go : (0 < recordWriteRefusal (length l) place (sized w h) r) ⊎ (recordWriteRefusal (length l) place (sized w h) r ≤ 0) → length (recordList l place w h r) ≡ length l
     go (inl k) = ap length (sym (record-refused l place w h r refl k .1))
     go (inr k) =
-        let none : recordWriteRefusal (length l) place w h r ≡ 0 = omega arith in
-        ap length (sym (record-done l place w h r none .1)) ∙ put-length l place (recordBytes r) (writable (length l) place w h r none .room .inside)
+        let none : recordWriteRefusal (length l) place (sized w h) r ≡ 0 = omega arith in
+        ap length (sym (record-done l place w h r none .1)) ∙ put-length l place (recordBytes r) (writable (length l) place (sized w h) r none .room .inside)

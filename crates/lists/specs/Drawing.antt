@@ -1,6 +1,6 @@
 -- The drawings of a list: its shapes, each with the settings in force.
 use mathlib.Core.List.{List, [], _∷_, _++_}
-use Prim.Native.Nat.{ℕ}
+use Rattle.shapes.specs.declared.Basis.{Basis}
 use Rattle.shapes.specs.declared.Shape.{Shape}
 use Rattle.shapes.specs.declared.Record.{Record}
 use Rattle.shapes.specs.declared.Record.the-variants.{End as end, Setting as setting, Shape as shape}
@@ -22,6 +22,6 @@ unfoldable pub drawingsFrom : Settings → List Record → List Drawing
 drawingsFrom f [] = []
 drawingsFrom f (r ∷ rs) = drawingOf f r ++ drawingsFrom (inForce f r) rs
 
--- the drawings of a list's records on a page of w by h
-abbrev pub drawings : ℕ → ℕ → List Record → List Drawing
-drawings w h = drawingsFrom (start w h)
+-- the drawings of a list's records
+abbrev pub drawings : Basis → List Record → List Drawing
+drawings b = drawingsFrom (start b)

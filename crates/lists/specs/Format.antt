@@ -6,12 +6,13 @@ use lib.Dec.{eqb}
 use lib.IntN.{ℤ}
 use lib.ListN.{getD}
 use Rattle.numbers.specs.Coordinate.{bitsOf, signedOf, wordOf, bytesOf}
-use Rattle.shapes.specs.Limits.{first}
+use Rattle.shapes.specs.Limits.{first, sized}
 use Rattle.shapes.specs.declared.Line.{Line}
 use Rattle.shapes.specs.declared.Disc.{Disc}
 use Rattle.shapes.specs.declared.Ring.{Ring}
 use Rattle.shapes.specs.declared.Shape.the-variants.{Line as line, Disc as disc, Ring as ring}
 use Rattle.shapes.specs.declared.Clip.{Clip}
+use Rattle.shapes.specs.declared.Basis.{Basis}
 use Rattle.shapes.specs.declared.Setting.the-variants.{Clip as clip, Level as level}
 use Rattle.shapes.specs.declared.Record.{Record}
 use Rattle.shapes.specs.declared.Record.the-variants.{End as end, Setting as setting, Shape as shape}
@@ -81,6 +82,10 @@ coordinateAt s i = signedOf (wordAt s i)
 
 abbrev pub headerAt : List ℕ → Header
 headerAt s = record { w = wordAt s 5; h = wordAt s 7; background = getD s 9 0 }
+
+-- what the records behind a header are read against
+abbrev pub basisOf : Header → Basis
+basisOf d = sized (d .w) (d .h)
 
 abbrev pub clipAt : List ℕ → Clip
 clipAt s = record { x0 = wordAt s 1; y0 = wordAt s 3; x1 = wordAt s 5; y1 = wordAt s 7 }

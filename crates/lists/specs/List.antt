@@ -5,8 +5,9 @@ use Prim.Native.Nat.{ℕ, zero, suc, _+_, _*_}
 use lib.Dec.{ltb, eqb}
 use lib.ListN.{length, getD, drop}
 use Rattle.shapes.specs.Limits.{first, tried, sizeRefusal}
+use Rattle.shapes.specs.declared.Basis.{Basis}
 use Rattle.shapes.specs.declared.Record.{Record}
-use Rattle.lists.specs.Format.{listMost, headerSize, mark, version, wordAt, headerAt, kindAt, sizeAt, recordAt}
+use Rattle.lists.specs.Format.{listMost, headerSize, mark, version, wordAt, headerAt, basisOf, kindAt, sizeAt, recordAt}
 use Rattle.lists.specs.Read.{readRefusal}
 use Rattle.lists.specs.declared.format.Header.{Header}
 use Rattle.lists.specs.declared.check.Checked.{Checked}
@@ -46,20 +47,20 @@ behindEnd s place = cond (ltb 0 (length s)) (refused 6 place) (accepted [])
 
 -- the records of the bytes s that begin at a place: 4, 5 and 7 to 11 of each record, at its first byte.
 -- A record has a byte at least, so that the fuel lasts if it is above the length.
-unfoldable pub recordsFrom : ℕ → ℕ → ℕ → List ℕ → ℕ → Records
-recordsFrom zero w h s place = refused 5 place
-recordsFrom (suc fuel) w h s place =
-    cond (ltb 0 (readRefusal w h s)) (refused (readRefusal w h s) place)
+unfoldable pub recordsFrom : ℕ → Basis → List ℕ → ℕ → Records
+recordsFrom zero b s place = refused 5 place
+recordsFrom (suc fuel) b s place =
+    cond (ltb 0 (readRefusal b s)) (refused (readRefusal b s) place)
     (onto (recordAt s)
     (cond (eqb (kindAt s) 0)
     (behindEnd (drop (sizeAt s) s) (place + sizeAt s))
-    (recordsFrom fuel w h (drop (sizeAt s) s) (place + sizeAt s))))
+    (recordsFrom fuel b (drop (sizeAt s) s) (place + sizeAt s))))
 
 -- a whole list s, for a page of n bytes
 unfoldable pub recordsOf : List ℕ → ℕ → Records
 recordsOf s n =
     cond (ltb 0 (headerRefusal s n)) (refused (headerRefusal s n) 0)
-    (recordsFrom (suc (length s)) (headerAt s .w) (headerAt s .h) (drop headerSize s) headerSize)
+    (recordsFrom (suc (length s)) (basisOf (headerAt s)) (drop headerSize s) headerSize)
 
 abbrev pub checkedAs : Header → Records → Checked
 checkedAs d (accepted rs) = Accepted d

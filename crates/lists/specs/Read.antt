@@ -5,24 +5,25 @@ use Prim.Native.Nat.{ℕ}
 use lib.Dec.{ltb, eqb}
 use lib.ListN.{length, drop}
 use Rattle.shapes.specs.Limits.{first, tried, sizeRefusal, recordRefusal}
+use Rattle.shapes.specs.declared.Basis.{Basis}
 use Rattle.lists.specs.Format.{sizeAt, recordAt}
 use Rattle.lists.specs.declared.read.Reading.{Reading}
 use Rattle.lists.specs.declared.read.Reading.the-variants.{Found, Refused}
 
 -- 3; 5 where no byte is lent; 4; 5; then those of 7 to 11 that the kind has
-unfoldable pub readRefusal : ℕ → ℕ → List ℕ → ℕ
-readRefusal w h s =
+unfoldable pub readRefusal : Basis → List ℕ → ℕ
+readRefusal b s =
     first
-    (tried (sizeRefusal w h)
+    (tried (sizeRefusal (b .w) (b .h))
     ∷ (eqb (length s) 0, 5)
     ∷ (eqb (sizeAt s) 0, 4)
     ∷ (ltb (length s) (sizeAt s), 5)
-    ∷ tried (recordRefusal w h (recordAt s))
+    ∷ tried (recordRefusal b (recordAt s))
     ∷ [])
 
-unfoldable pub readingOf : ℕ → ℕ → List ℕ → Reading
-readingOf w h s = cond (ltb 0 (readRefusal w h s)) (Refused (readRefusal w h s)) (Found (recordAt s))
+unfoldable pub readingOf : Basis → List ℕ → Reading
+readingOf b s = cond (ltb 0 (readRefusal b s)) (Refused (readRefusal b s)) (Found (recordAt s))
 
 -- the bytes past the record; after a refusal all of them
-unfoldable pub pastRecord : ℕ → ℕ → List ℕ → List ℕ
-pastRecord w h s = cond (ltb 0 (readRefusal w h s)) s (drop (sizeAt s) s)
+unfoldable pub pastRecord : Basis → List ℕ → List ℕ
+pastRecord b s = cond (ltb 0 (readRefusal b s)) s (drop (sizeAt s) s)

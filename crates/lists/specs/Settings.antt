@@ -1,13 +1,13 @@
 -- The settings in force.
-use Prim.Native.Nat.{ℕ}
+use Rattle.shapes.specs.declared.Basis.{Basis}
 use Rattle.shapes.specs.declared.Setting.the-variants.{Clip as clip, Level as level}
 use Rattle.shapes.specs.declared.Record.{Record}
 use Rattle.shapes.specs.declared.Record.the-variants.{End as end, Setting as setting, Shape as shape}
 use Rattle.lists.specs.declared.settings.Settings.{Settings}
 
 -- the clip starts as the whole page, the level as 255
-unfoldable pub start : ℕ → ℕ → Settings
-start w h = record { clip = record { x0 = 0; y0 = 0; x1 = w; y1 = h }; level = 255 }
+unfoldable pub start : Basis → Settings
+start b = record { clip = record { x0 = 0; y0 = 0; x1 = b .w; y1 = b .h }; level = 255 }
 
 -- a setting holds until the next of its kind
 unfoldable pub inForce : Settings → Record → Settings

@@ -4,7 +4,8 @@ use mathlib.Core.List.{List, [], _∷_, _++_}
 use Prim.Native.Nat.{ℕ, _+_, min}
 use lib.Dec.{ltb}
 use lib.ListN.{length, take, drop}
-use Rattle.shapes.specs.Limits.{first, tried, sizeRefusal, recordRefusal}
+use Rattle.shapes.specs.Limits.{first, tried, sized, sizeRefusal, recordRefusal}
+use Rattle.shapes.specs.declared.Basis.{Basis}
 use Rattle.shapes.specs.declared.Record.{Record}
 use Rattle.lists.specs.Format.{listMost, headerSize, headerBytes, recordBytes}
 use Rattle.lists.specs.declared.format.Header.{Header}
@@ -22,11 +23,11 @@ tooFew n last = ltb (min n listMost) last
 unfoldable pub headerWriteRefusal : ℕ → Header → ℕ
 headerWriteRefusal n d = first (tried (sizeRefusal (d .w) (d .h)) ∷ (tooFew n headerSize, 22) ∷ [])
 
-unfoldable pub recordWriteRefusal : ℕ → ℕ → ℕ → ℕ → Record → ℕ
-recordWriteRefusal n place w h r =
+unfoldable pub recordWriteRefusal : ℕ → ℕ → Basis → Record → ℕ
+recordWriteRefusal n place b r =
     first
-    (tried (sizeRefusal w h)
-    ∷ tried (recordRefusal w h r)
+    (tried (sizeRefusal (b .w) (b .h))
+    ∷ tried (recordRefusal b r)
     ∷ (ltb place headerSize || tooFew n (place + length (recordBytes r)), 22)
     ∷ [])
 
@@ -39,8 +40,8 @@ headerWritten l place w h d =
 
 unfoldable pub recordWritten : List ℕ → ℕ → ℕ → ℕ → Record → Written
 recordWritten l place w h r =
-    cond (ltb 0 (recordWriteRefusal (length l) place w h r))
-    (record { refusal = recordWriteRefusal (length l) place w h r; place = place; w = w; h = h })
+    cond (ltb 0 (recordWriteRefusal (length l) place (sized w h) r))
+    (record { refusal = recordWriteRefusal (length l) place (sized w h) r; place = place; w = w; h = h })
     (record { refusal = 0; place = place + length (recordBytes r); w = w; h = h })
 
 -- the list, which remains on a refusal: a header goes to byte 0, a record to the place
@@ -48,7 +49,7 @@ unfoldable pub headerList : List ℕ → Header → List ℕ
 headerList l d = cond (ltb 0 (headerWriteRefusal (length l) d)) l (putAt 0 (headerBytes d) l)
 
 unfoldable pub recordList : List ℕ → ℕ → ℕ → ℕ → Record → List ℕ
-recordList l place w h r = cond (ltb 0 (recordWriteRefusal (length l) place w h r)) l (putAt place (recordBytes r) l)
+recordList l place w h r = cond (ltb 0 (recordWriteRefusal (length l) place (sized w h) r)) l (putAt place (recordBytes r) l)
 
 -- the list after some records, one after the other
 unfoldable pub recordsList : List ℕ → ℕ → ℕ → ℕ → List Record → List ℕ

@@ -5,12 +5,13 @@ ghost use Prim.Native.Nat.{suc, _*_, _≤_};
 ghost use lib.Dec.{ltb};
 ghost use lib.ListN.{length, drop};
 ghost use Rattle.shapes.specs.Limits.{first, tried, sizeRefusal};
-ghost use Rattle.lists.specs.Format.{headerSize};
+ghost use Rattle.lists.specs.Format.{headerSize, basisOf};
 ghost use Rattle.lists.specs.List.{hasMark, headerRefusal, recordsFrom, checkedAs, checkedOf};
 use super::format::HEADER_SIZE;
 use super::format::Header;
 use super::format::LIST_MOST;
 use super::format::VERSION;
+use super::format::basis_of;
 use super::format::kind_size;
 use super::format::read_header;
 use super::format::word_at;
@@ -72,13 +73,12 @@ fn header_refusal(list: &[u8], page: usize) -> u8
 // Tries the records one after the other.
 fn check_records(list: &[u8], header: Header) -> Checked
     requires { ⌜ headerSize ≤ length (now list) ⌝ }
-    ensures { λ r. ⌜ r ≡ checkedAs header (recordsFrom (suc (length (now (list .entry)))) (header .w) (header .h) (drop headerSize (now (list .entry))) headerSize) ⌝ }
+    ensures { λ r. ⌜ r ≡ checkedAs header (recordsFrom (suc (length (now (list .entry)))) (basisOf header) (drop headerSize (now (list .entry))) headerSize) ⌝ }
 {
-    let w = header.w;
-    let h = header.h;
+    let basis = basis_of(header);
     let mut place = HEADER_SIZE;
     loop {
-        let refusal = read_refusal(&list[place..], w, h);
+        let refusal = read_refusal(&list[place..], basis);
         if 0 < refusal {
             return Checked::Refused { refusal, place };
         }

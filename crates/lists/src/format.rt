@@ -4,8 +4,9 @@ ghost use Prim.Native.Nat.{_+_, _≤_};
 ghost use lib.ListN.{length};
 ghost use mathlib.Core.Bool.{cond};
 ghost use mathlib.Core.List.{[], _∷_, _++_};
-ghost use Rattle.lists.specs.Format.{kindSize, words, coordinates, headerBytes, recordBytes, wordAt, coordinateAt, headerAt, clipAt, lineAt, discAt, ringAt, recordAt};
+ghost use Rattle.lists.specs.Format.{kindSize, words, coordinates, headerBytes, recordBytes, wordAt, coordinateAt, headerAt, basisOf, clipAt, lineAt, discAt, ringAt, recordAt};
 ghost use Rattle.lists.specs.inner.Record.{Whole, padded, OneByte, OneByteRecord};
+use shapes::Basis;
 use shapes::Clip;
 use shapes::Disc;
 use shapes::Line;
@@ -136,6 +137,16 @@ pub(crate) fn read_header(list: &[u8]) -> Header
         w: word_at(list, 5),
         h: word_at(list, 7),
         background: list[9],
+    }
+}
+
+// What the records behind a header are read against.
+pub fn basis_of(header: Header) -> Basis
+    ensures { λ r. ⌜ r ≡ basisOf header ⌝ }
+{
+    Basis {
+        w: header.w,
+        h: header.h,
     }
 }
 

@@ -3,6 +3,7 @@ ghost use mathlib.Core.Path.{_≡_};
 ghost use Rattle.lists.specs.Read.{readRefusal, readingOf, pastRecord};
 use super::format::decode;
 use super::format::kind_size;
+use shapes::Basis;
 use shapes::Record;
 
 // What the reader answers: the record, or the number of the refusal.
@@ -11,11 +12,11 @@ pub enum Reading {
     Refused(u8),
 }
 
-// The first refusal of the record at the front on a page of w by h, or 0.
-pub fn read_refusal(list: &[u8], w: u16, h: u16) -> u8
-    ensures { λ r. ⌜ r ≡ readRefusal w h (now (list .entry)) ⌝ }
+// The first refusal of the record at the front, or 0.
+pub fn read_refusal(list: &[u8], basis: Basis) -> u8
+    ensures { λ r. ⌜ r ≡ readRefusal basis (now (list .entry)) ⌝ }
 {
-    let page = shapes::size_refusal(w, h);
+    let page = shapes::size_refusal(basis.w, basis.h);
     if 0 < page {
         return page;
     }
@@ -29,14 +30,14 @@ pub fn read_refusal(list: &[u8], w: u16, h: u16) -> u8
     if list.len() < size {
         return 5;
     }
-    shapes::record_refusal(w, h, decode(list))
+    shapes::record_refusal(basis, decode(list))
 }
 
 // The record at the front.
-pub fn read_record(list: &[u8], w: u16, h: u16) -> Reading
-    ensures { λ r. ⌜ r ≡ readingOf w h (now (list .entry)) ⌝ }
+pub fn read_record(list: &[u8], basis: Basis) -> Reading
+    ensures { λ r. ⌜ r ≡ readingOf basis (now (list .entry)) ⌝ }
 {
-    let refusal = read_refusal(list, w, h);
+    let refusal = read_refusal(list, basis);
     if 0 < refusal {
         return Reading::Refused(refusal);
     }
@@ -44,10 +45,10 @@ pub fn read_record(list: &[u8], w: u16, h: u16) -> Reading
 }
 
 // The bytes past the record at the front, or all of them after a refusal.
-pub fn rest(list: &[u8], w: u16, h: u16) -> &[u8]
-    ensures { λ r. ⌜ now r ≡ pastRecord w h (now (list .entry)) ⌝ }
+pub fn rest(list: &[u8], basis: Basis) -> &[u8]
+    ensures { λ r. ⌜ now r ≡ pastRecord basis (now (list .entry)) ⌝ }
 {
-    if 0 < read_refusal(list, w, h) {
+    if 0 < read_refusal(list, basis) {
         return list;
     }
     let next = kind_size(list[0]);

@@ -1,4 +1,5 @@
 // The settings in force.
+use shapes::Basis;
 use shapes::Clip;
 use shapes::Record;
 use shapes::Setting;
@@ -12,15 +13,15 @@ pub struct Settings {
 }
 
 // The settings before the first record.
-pub fn first_settings(w: u16, h: u16) -> Settings
-    ensures { λ r. ⌜ r ≡ start w h ⌝ }
+pub fn first_settings(basis: Basis) -> Settings
+    ensures { λ r. ⌜ r ≡ start basis ⌝ }
 {
     Settings {
         clip: Clip {
             x0: 0,
             y0: 0,
-            x1: w,
-            y1: h,
+            x1: basis.w,
+            y1: basis.h,
         },
         level: 255,
     }

@@ -13,6 +13,7 @@ use super::format::LIST_MOST;
 use super::format::header_bytes;
 use super::format::record_bytes;
 use super::format::record_size;
+use shapes::Basis;
 use shapes::Record;
 
 // What the writer answers: the number of the refusal or 0, and the place, W and H from now on.
@@ -67,14 +68,14 @@ fn header_write_refusal(n: usize, header: Header) -> u8
 }
 
 // The first refusal of a record at a place of a list of n bytes, or 0.
-fn record_write_refusal(n: usize, place: usize, w: u16, h: u16, rec: Record) -> u8
-    ensures { λ r. ⌜ r ≡ recordWriteRefusal n place w h rec ⌝ }
+fn record_write_refusal(n: usize, place: usize, basis: Basis, rec: Record) -> u8
+    ensures { λ r. ⌜ r ≡ recordWriteRefusal n place basis rec ⌝ }
 {
-    let page = shapes::size_refusal(w, h);
+    let page = shapes::size_refusal(basis.w, basis.h);
     if 0 < page {
         return page;
     }
-    let refusal = shapes::record_refusal(w, h, rec);
+    let refusal = shapes::record_refusal(basis, rec);
     if 0 < refusal {
         return refusal;
     }
@@ -117,7 +118,7 @@ pub fn write_header(list: &mut [u8], place: usize, w: u16, h: u16, header: Heade
 pub fn write_record(list: &mut [u8], place: usize, w: u16, h: u16, rec: Record) -> Written
     ensures { λ r. ⌜ (r ≡ recordWritten (now (list .entry)) place w h rec) × (now (list .exit) ≡ recordList (now (list .entry)) place w h rec) ⌝ }
 {
-    let refusal = record_write_refusal(list.len(), place, w, h, rec);
+    let refusal = record_write_refusal(list.len(), place, Basis { w, h }, rec);
     if 0 < refusal {
         return refused(refusal, place, w, h);
     }

@@ -9,6 +9,7 @@ use Rattle.numbers.specs.Coordinate.{inRange}
 use Rattle.shapes.specs.declared.Shape.{Shape}
 use Rattle.shapes.specs.declared.Shape.the-variants.{Line as line, Disc as disc, Ring as ring}
 use Rattle.shapes.specs.declared.Clip.{Clip}
+use Rattle.shapes.specs.declared.Basis.{Basis}
 use Rattle.shapes.specs.declared.Setting.the-variants.{Clip as clip, Level as level}
 use Rattle.shapes.specs.declared.Record.{Record}
 use Rattle.shapes.specs.declared.Record.the-variants.{End as end, Setting as setting, Shape as shape}
@@ -53,6 +54,10 @@ refusalsOf (line l) = (same (l .x0) (l .x1) && same (l .y0) (l .y1), 9) ∷ []
 refusalsOf (disc d) = (offRadius (d .radius), 10) ∷ []
 refusalsOf (ring g) = (offRadius (g .radius), 10) ∷ (ltb (g .width) 1 || ltb (g .radius) (g .width), 11) ∷ []
 
+-- the basis of a page of w by h
+abbrev pub sized : ℕ → ℕ → Basis
+sized w h = record { w = w; h = h }
+
 -- what is tried of W and H, of a clip, of a shape and of a record
 unfoldable pub sizeRefusal : ℕ → ℕ → ℕ
 sizeRefusal w h = first ((offSize w h, 3) ∷ [])
@@ -63,8 +68,8 @@ clipRefusal w h c = first ((offPage w h c, 8) ∷ [])
 unfoldable pub shapeRefusal : Shape → ℕ
 shapeRefusal s = first ((offRange s, 7) ∷ refusalsOf s)
 
-unfoldable pub recordRefusal : ℕ → ℕ → Record → ℕ
-recordRefusal w h end = 0
-recordRefusal w h (setting (clip c)) = clipRefusal w h c
-recordRefusal w h (setting (level v)) = 0
-recordRefusal w h (shape s) = shapeRefusal s
+unfoldable pub recordRefusal : Basis → Record → ℕ
+recordRefusal b end = 0
+recordRefusal b (setting (clip c)) = clipRefusal (b .w) (b .h) c
+recordRefusal b (setting (level v)) = 0
+recordRefusal b (shape s) = shapeRefusal s

@@ -37,6 +37,12 @@ pub struct Clip {
     pub y1: u16,
 }
 
+// What a record is read and written against: W and H.
+pub struct Basis {
+    pub w: u16,
+    pub h: u16,
+}
+
 pub enum Setting {
     Clip(Clip),
     Level(u8),
@@ -198,14 +204,14 @@ pub fn shape_refusal(shape: Shape) -> u8
     }
 }
 
-// The first refusal of a record on a page of w by h, 7 to 11, or 0.
-pub fn record_refusal(w: u16, h: u16, rec: Record) -> u8
-    ensures { λ r. ⌜ r ≡ recordRefusal w h rec ⌝ }
+// The first refusal of a record, 7 to 11, or 0.
+pub fn record_refusal(basis: Basis, rec: Record) -> u8
+    ensures { λ r. ⌜ r ≡ recordRefusal basis rec ⌝ }
 {
     match rec {
         Record::End => 0,
         Record::Setting(setting) => match setting {
-            Setting::Clip(clip) => clip_refusal(w, h, clip),
+            Setting::Clip(clip) => clip_refusal(basis.w, basis.h, clip),
             Setting::Level(_) => 0,
         },
         Record::Shape(shape) => shape_refusal(shape),

@@ -14,18 +14,18 @@ use Rattle.drawing.proofs.draw_records.Statement.{statement}
 use Rattle.drawing.proofs.draw_records.Tie as tie
 
 abbrev Inv-loop : tie.InvT-loop
-Inv-loop page₀ list w h settings₀ touched₀ place₀ page settings touched place =
-    Remaining w h list (listDrawings w h list) (shapesPage w (listDrawings w h list) page₀) (shapesCount w h (listDrawings w h list)) place settings page touched
+Inv-loop page₀ list basis settings₀ touched₀ place₀ page settings touched place =
+    Remaining basis list (listDrawings basis list) (shapesPage (basis .w) (listDrawings basis list) page₀) (shapesCount (basis .w) (basis .h) (listDrawings basis list)) place settings page touched
     × (length page ≡ length page₀)
 
 abbrev μ-loop : tie.MeasureT-loop
-μ-loop page₀ list w h settings₀ touched₀ place₀ page settings touched place = length list - place
+μ-loop page₀ list basis settings₀ touched₀ place₀ page settings touched place = length list - place
 
 first-settings-requires : tie.Need-first-settings-requires Inv-loop μ-loop
 first-settings-requires c κs = search needs
 
 loop-holds : tie.Need-loop-holds Inv-loop μ-loop
-loop-holds c = (rw (c .first-settings .ensures) (remaining-start (c .before .before .before .args .w) (c .before .before .before .args .h) (now (c .before .before .before .args .list)) (now (c .before .before .before .args .page)) (c .before .before .before .pre)), refl)
+loop-holds c = (rw (c .first-settings .ensures) (remaining-start (c .before .before .before .args .basis) (now (c .before .before .before .args .list)) (now (c .before .before .before .args .page)) (c .before .before .before .pre)), refl)
 
 shared-slice-read-kind : tie.Need-shared-slice-read-kind Inv-loop μ-loop
 shared-slice-read-kind c = left-inside (c .before .loop .inv .0 .left) .0

@@ -3,6 +3,7 @@ use mathlib.Core.Path.{_≡_}
 use mathlib.Core.List.{List, [], _∷_}
 use Prim.Native.Nat.{ℕ, _*_, _%_, _/_, _≤_}
 use Rattle.shapes.specs.Limits.{shapeRefusal}
+use Rattle.shapes.specs.declared.Basis.{Basis}
 use Rattle.shapes.specs.declared.Clip.{Clip}
 use Rattle.page.specs.Page.{over}
 use Rattle.lists.specs.inner.Walk.{Walkable}
@@ -29,7 +30,7 @@ unfoldable pub AllLawful : List Drawing → Type 0
 AllLawful [] = Unit {0}
 AllLawful (d ∷ ds) = (d .settings .level ≤ 255) × (shapeRefusal (d .shape) ≡ 0) × AllLawful ds
 
--- an accepted list s, and a page of w by h in size bytes
-pub record Drawable (s : List ℕ) (w h size : ℕ) : Type 0 where
-  pub walk : Walkable s w h
-  pub room : w * h ≤ size
+-- an accepted list s, and a page for it in size bytes
+pub record Drawable (s : List ℕ) (b : Basis) (size : ℕ) : Type 0 where
+  pub walk : Walkable s b
+  pub room : b .w * b .h ≤ size

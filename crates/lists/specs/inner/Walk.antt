@@ -4,6 +4,7 @@ use mathlib.Core.List.{List, []}
 use Prim.Native.Nat.{ℕ, suc, _≤_}
 use lib.ListN.{length, drop}
 use Rattle.shapes.specs.Limits.{sizeRefusal}
+use Rattle.shapes.specs.declared.Basis.{Basis}
 use Rattle.shapes.specs.declared.Record.{Record}
 use Rattle.lists.specs.Format.{headerSize, listMost}
 use Rattle.lists.specs.List.{Records, accepted, refused, recordsFrom}
@@ -13,16 +14,16 @@ unfoldable pub recordsIn : Records → List Record
 recordsIn (accepted rs) = rs
 recordsIn (refused f place) = []
 
--- the records of the list s on a page of w by h
-unfoldable pub listRecords : ℕ → ℕ → List ℕ → Records
-listRecords w h s = recordsFrom (suc (length s)) w h (drop headerSize s) headerSize
+-- the records of the list s
+unfoldable pub listRecords : Basis → List ℕ → Records
+listRecords b s = recordsFrom (suc (length s)) b (drop headerSize s) headerSize
 
-abbrev pub listDrawings : ℕ → ℕ → List ℕ → List Drawing
-listDrawings w h s = drawings w h (recordsIn (listRecords w h s))
+abbrev pub listDrawings : Basis → List ℕ → List Drawing
+listDrawings b s = drawings b (recordsIn (listRecords b s))
 
--- a list s that is accepted on a page of w by h: its records can be walked over
-pub record Walkable (s : List ℕ) (w h : ℕ) : Type 0 where
-  pub page : sizeRefusal w h ≡ 0
+-- a list s that is accepted: its records can be walked over
+pub record Walkable (s : List ℕ) (b : Basis) : Type 0 where
+  pub page : sizeRefusal (b .w) (b .h) ≡ 0
   pub least : headerSize ≤ length s
   pub most : length s ≤ listMost
-  pub is : listRecords w h s ≡ accepted (recordsIn (listRecords w h s))
+  pub is : listRecords b s ≡ accepted (recordsIn (listRecords b s))

@@ -4,22 +4,25 @@ use native.Mathlib.Omega.{arith}
 use borrow.Author.Needs.{needs}
 use lib.ListN.{length, drop}
 use denote.Ref.{now}
-use Rattle.lists.specs.Format.{headerSize}
+use Rattle.lists.specs.Format.{headerSize, basisOf}
 use Rattle.lists.specs.List.{checkedAs, recordsFrom}
 use Rattle.lists.proofs.Walk.{Reached, reached-start, refused-here, next-inside, surplus, accepted-here, next-reached}
 use Rattle.lists.proofs.check.check_records.Statement.{statement}
 use Rattle.lists.proofs.check.check_records.Tie as tie
 
 abbrev Inv-loop : tie.InvT-loop
-Inv-loop list header w h place₀ place = Reached header list (checkedAs header (recordsFrom (suc (length list)) (header .w) (header .h) (drop headerSize list) headerSize)) place
+Inv-loop list header basis place₀ place = Reached header basis list (checkedAs header (recordsFrom (suc (length list)) (basisOf header) (drop headerSize list) headerSize)) place
 
 abbrev μ-loop : tie.MeasureT-loop
-μ-loop list header w h place₀ place = length list - place
+μ-loop list header basis place₀ place = length list - place
+
+basis-of-requires : tie.Need-basis-of-requires Inv-loop μ-loop
+basis-of-requires c κs = search needs
 
 loop-holds : tie.Need-loop-holds Inv-loop μ-loop
 loop-holds c =
-    let args = c .before .args in
-    reached-start (args .header) (now (args .list)) headerSize (c .before .pre)
+    let s = c .before .before in
+    rw (c .basis-of .ensures) (reached-start (s .args .header) _ (now (s .args .list)) headerSize (s .pre))
 
 sub-read-refusal : tie.Need-sub-read-refusal Inv-loop μ-loop
 sub-read-refusal c = c .loop .inv .inside
@@ -89,6 +92,7 @@ check-records-spec =
     (tie.spec
     Inv-loop
     μ-loop
+    basis-of-requires
     loop-holds
     sub-read-refusal
     part-read-refusal-start

@@ -18,7 +18,7 @@ returns c = simp (← c .before .read-refusal .ensures, lt-ltb _ _ (c .if1 .take
 decode-requires : tie.Need-decode-requires
 decode-requires c κs =
     let a = c .before .before .before .args in
-    readable (a .w) (a .h) (now (a .list)) (sym (c .before .read-refusal .ensures) ∙ omega arith) .whole
+    readable (a .basis) (now (a .list)) (sym (c .before .read-refusal .ensures) ∙ omega arith) .whole
 
 returns-2 : tie.Need-returns-2
 unfolding readingOf

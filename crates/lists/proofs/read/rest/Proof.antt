@@ -24,7 +24,7 @@ shared-slice-read-kind-size : tie.Need-shared-slice-read-kind-size
 shared-slice-read-kind-size c =
     let read-refusal = c .before .before .read-refusal in
     let a = c .before .before .before .before .args in
-    let whole = readable (a .w) (a .h) (now (a .list)) (sym (read-refusal .ensures) ∙ omega arith) .whole in
+    let whole = readable (a .basis) (now (a .list)) (sym (read-refusal .ensures) ∙ omega arith) .whole in
     omega arith
 
 kind-size-requires : tie.Need-kind-size-requires
@@ -34,13 +34,13 @@ sub-result : tie.Need-sub-result
 sub-result c =
     let read-refusal = c .before .before .before .read-refusal in
     let a = c .before .before .before .before .before .args in
-    rw (c .kind-size .ensures) (readable (a .w) (a .h) (now (a .list)) (sym (read-refusal .ensures) ∙ omega arith) .whole .fits)
+    rw (c .kind-size .ensures) (readable (a .basis) (now (a .list)) (sym (read-refusal .ensures) ∙ omega arith) .whole .fits)
 
 part-result-start : tie.Need-part-result-start
 part-result-start c =
     let read-refusal = c .before .before .before .read-refusal in
     let a = c .before .before .before .before .before .args in
-    rw (c .kind-size .ensures) (readable (a .w) (a .h) (now (a .list)) (sym (read-refusal .ensures) ∙ omega arith) .whole .fits)
+    rw (c .kind-size .ensures) (readable (a .basis) (now (a .list)) (sym (read-refusal .ensures) ∙ omega arith) .whole .fits)
 
 part-result-end : tie.Need-part-result-end
 part-result-end c = search needs

@@ -27,7 +27,7 @@ returns-2 c =
 record-size-requires : tie.Need-record-size-requires
 record-size-requires c κs =
     let a = c .before .before .before .before .args in
-    one-byte (a .w) (a .h) (a .rec) (sym (c .before .record-refusal .ensures) ∙ omega arith)
+    one-byte (a .basis) (a .rec) (sym (c .before .record-refusal .ensures) ∙ omega arith)
 
 no-room-requires : tie.Need-no-room-requires
 no-room-requires c κs =

@@ -5,6 +5,7 @@ use borrow.Author.Needs.{needs}
 use lib.ListN.{length}
 use lib.Seq.{paste}
 use denote.Ref.{now}
+use Rattle.shapes.specs.Limits.{sized}
 use Rattle.lists.specs.Format.{recordBytes}
 use Rattle.lists.proofs.Bytes.{record-most, put-padded}
 use Rattle.lists.proofs.Refusals.{one-byte}
@@ -27,20 +28,20 @@ returns c =
 record-size-requires : tie.Need-record-size-requires
 record-size-requires c κs =
     let a = c .before .before .before .args in
-    one-byte (a .w) (a .h) (a .rec) (writable (length (now (a .list))) (a .place) (a .w) (a .h) (a .rec) (sym (c .before .record-write-refusal .ensures) ∙ omega arith) .lawful)
+    one-byte (sized (a .w) (a .h)) (a .rec) (writable (length (now (a .list))) (a .place) (sized (a .w) (a .h)) (a .rec) (sym (c .before .record-write-refusal .ensures) ∙ omega arith) .lawful)
 
 record-bytes-requires : tie.Need-record-bytes-requires
 record-bytes-requires c κs =
     let record-write-refusal = c .before .before .before .record-write-refusal in
     let a = c .before .before .before .before .before .args in
-    one-byte (a .w) (a .h) (a .rec) (writable (length (now (a .list))) (a .place) (a .w) (a .h) (a .rec) (sym (record-write-refusal .ensures) ∙ omega arith) .lawful)
+    one-byte (sized (a .w) (a .h)) (a .rec) (writable (length (now (a .list))) (a .place) (sized (a .w) (a .h)) (a .rec) (sym (record-write-refusal .ensures) ∙ omega arith) .lawful)
 
 put-requires : tie.Need-put-requires
 put-requires c κs =
     let record-write-refusal = c .before .before .before .before .record-write-refusal in
     let record-size = c .before .before .record-size in
     let a = c .before .before .before .before .before .before .args in
-    let fit = writable (length (now (a .list))) (a .place) (a .w) (a .h) (a .rec) (sym (record-write-refusal .ensures) ∙ omega arith) .room in
+    let fit = writable (length (now (a .list))) (a .place) (sized (a .w) (a .h)) (a .rec) (sym (record-write-refusal .ensures) ∙ omega arith) .room in
     let most = record-most (a .rec) in
     rw (record-size .ensures) (most, fit .inside)
 
@@ -49,7 +50,7 @@ add-t8 c =
     let record-write-refusal = c .before .before .before .before .before .before .before .record-write-refusal in
     let record-size = c .before .before .before .before .before .record-size in
     let a = c .before .before .before .before .before .before .before .before .before .args in
-    let fit = writable (length (now (a .list))) (a .place) (a .w) (a .h) (a .rec) (sym (record-write-refusal .ensures) ∙ omega arith) .room in
+    let fit = writable (length (now (a .list))) (a .place) (sized (a .w) (a .h)) (a .rec) (sym (record-write-refusal .ensures) ∙ omega arith) .room in
     omega (arith, record-size .ensures)
 
 same-length : tie.Need-same-length
