@@ -20,7 +20,7 @@ pub fn draw_shape(
     Ok(paint(page, size, clip, level, shape))
 }
 
-/// Draws what has no fault.
+/// Draws what has no refusal.
 pub(crate) fn paint(page: &mut [u8], size: Size, clip: Clip, level: u8, shape: Shape) -> u64 {
     let mut canvas = Canvas {
         page,

@@ -1,6 +1,6 @@
 //! Checking and drawing a whole list as one would first write it in Rust.
 //!
-//! The list is read twice, record by record: once to find its first fault, once to draw.
+//! The list is read twice, record by record: once to find its first refusal, once to draw.
 
 use crate::baseline::{clip_refusal, page_refusal, paint, shape_refusal};
 use greystroke::{

@@ -205,7 +205,7 @@ fn ring(random: &mut Random, disc: Disc) -> Ring {
     }
 }
 
-/// Gives the shape a fault of its kind, or moves it out of range.
+/// Gives the shape a refusal of its kind, or moves it out of range.
 fn spoil_shape(random: &mut Random, shape: &mut Shape) {
     if random.one_in(3) {
         return push_outside(random, shape);

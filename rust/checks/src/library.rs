@@ -5,10 +5,10 @@ use crate::rows::{ShapeCall, Writing};
 use reference::coverage::Fraction;
 use reference::format::Header;
 use reference::list::Drawn;
-use reference::refusal::Refusal;
+use reference::refusal::Refused;
 use reference::shape::{Clip, Disc, Line, Record, Ring, Setting, Shape};
 
-pub fn coverage(shape: &Shape, x: i16, y: i16) -> Result<Fraction, Refusal> {
+pub fn coverage(shape: &Shape, x: i16, y: i16) -> Result<Fraction, Refused> {
     match greystroke::coverage(library_shape(shape), x, y) {
         Ok(cover) => Ok(Fraction {
             n: cover.n,
@@ -18,7 +18,7 @@ pub fn coverage(shape: &Shape, x: i16, y: i16) -> Result<Fraction, Refusal> {
     }
 }
 
-pub fn draw_shape(call: &mut ShapeCall) -> Result<u64, Refusal> {
+pub fn draw_shape(call: &mut ShapeCall) -> Result<u64, Refused> {
     let size = library_size(call.width, call.height);
     let clip = library_clip(&call.clip);
     let shape = library_shape(&call.shape);
@@ -26,14 +26,14 @@ pub fn draw_shape(call: &mut ShapeCall) -> Result<u64, Refusal> {
 }
 
 /// The record and the bytes past it; with a refusal all that was lent.
-pub fn read_record(bytes: &[u8], width: u16, height: u16) -> (Result<Record, Refusal>, &[u8]) {
+pub fn read_record(bytes: &[u8], width: u16, height: u16) -> (Result<Record, Refused>, &[u8]) {
     match greystroke::read_record(bytes, library_size(width, height)) {
         Ok((record, rest)) => (Ok(reference_record(record)), rest),
         Err(refusal) => (Err(without_place(refusal)), bytes),
     }
 }
 
-pub fn check_list(list: &[u8], page_length: usize) -> Result<Header, Refusal> {
+pub fn check_list(list: &[u8], page_length: usize) -> Result<Header, Refused> {
     match greystroke::check_list(list, page_length) {
         Ok(header) => Ok(Header {
             width: header.size.width,
@@ -44,7 +44,7 @@ pub fn check_list(list: &[u8], page_length: usize) -> Result<Header, Refusal> {
     }
 }
 
-pub fn draw_list(list: &[u8], page: &mut [u8]) -> Result<Drawn, Refusal> {
+pub fn draw_list(list: &[u8], page: &mut [u8]) -> Result<Drawn, Refused> {
     match greystroke::draw_list(page, list) {
         Ok(picture) => Ok(Drawn {
             width: picture.size.width,
@@ -55,7 +55,7 @@ pub fn draw_list(list: &[u8], page: &mut [u8]) -> Result<Drawn, Refusal> {
     }
 }
 
-pub fn write(writing: &mut Writing, what: &Writable) -> Result<(), Refusal> {
+pub fn write(writing: &mut Writing, what: &Writable) -> Result<(), Refused> {
     let mut writer = greystroke::Writer {
         list: &mut writing.list,
         place: writing.place,
@@ -73,16 +73,16 @@ pub fn write(writing: &mut Writing, what: &Writable) -> Result<(), Refusal> {
     outcome.map_err(without_place)
 }
 
-fn with_place(refused: greystroke::ListRefusal) -> Refusal {
-    Refusal {
+fn with_place(refused: greystroke::ListRefusal) -> Refused {
+    Refused {
         number: refused.refusal.number(),
         place: refused.place,
     }
 }
 
 /// Calls other than those on a whole list refuse at place 0.
-fn without_place(refusal: greystroke::Refusal) -> Refusal {
-    Refusal {
+fn without_place(refusal: greystroke::Refusal) -> Refused {
+    Refused {
         number: refusal.number(),
         place: 0,
     }

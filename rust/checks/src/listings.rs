@@ -23,7 +23,7 @@ pub fn header(random: &mut Random) -> Header {
     }
 }
 
-/// Any record, with or without fault on a page of this size.
+/// Any record, refused on a page of this size or not.
 pub fn record(random: &mut Random, width: u16, height: u16) -> Record {
     let mut shape = match random.between(0, 9) {
         0 => return Record::End,
@@ -53,17 +53,17 @@ fn clip(random: &mut Random, width: u16, height: u16) -> Clip {
     Clip { x0, y0, x1, y1 }
 }
 
-/// A setting or a shape without fault on a page of lawful size.
+/// A setting or a shape that is not refused on a page of lawful size.
 pub fn lawful_record(random: &mut Random, width: u16, height: u16) -> Record {
     loop {
         let record = record(random, width, height);
-        if record != Record::End && record.first_fault(width, height).is_none() {
+        if record != Record::End && record.first_refusal(width, height).is_none() {
             return record;
         }
     }
 }
 
-/// A record for a list: one in twenty may have a fault, or be an end record before the last.
+/// A record for a list: one in twenty may have a refusal, or be an end record before the last.
 fn listed_record(random: &mut Random, width: u16, height: u16) -> Record {
     if !random.one_in(20) {
         return lawful_record(random, width, height);

@@ -1,9 +1,9 @@
-//! Random lists without fault whose shapes meet their page, and pages to draw them on.
+//! Random lists that are accepted and whose shapes meet their page, and pages to draw them on.
 
 use crate::drawings::{clip, point_near, shape, sides, LONGEST_CLIP};
 use crate::random::Random;
 use reference::format::{encode_header, encode_record, Header};
-use reference::shape::{page_size_fault, Clip, Disc, Line, Record, Ring, Setting, Shape};
+use reference::shape::{page_size_refusal, Clip, Disc, Line, Record, Ring, Setting, Shape};
 
 /// A list, and the header it begins with.
 pub struct Listed {
@@ -37,7 +37,7 @@ pub fn picture(random: &mut Random) -> Listed {
 fn lawful_sides(random: &mut Random) -> (u16, u16) {
     loop {
         let (width, height) = sides(random);
-        if page_size_fault(width, height).is_none() {
+        if page_size_refusal(width, height).is_none() {
             return (width, height);
         }
     }
@@ -52,7 +52,7 @@ fn shape_about(random: &mut Random, clip: &Clip) -> Shape {
     loop {
         let near = point_near(random, clip);
         let shape = shape(random, near, clip);
-        if shape.first_fault().is_none() {
+        if shape.first_refusal().is_none() {
             return shape;
         }
     }

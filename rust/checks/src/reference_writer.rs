@@ -2,10 +2,10 @@
 
 use crate::notation::Writable;
 use crate::rows::Writing;
-use reference::refusal::Refusal;
+use reference::refusal::Refused;
 use reference::writer::Writer;
 
-pub fn write(writing: &mut Writing, what: &Writable) -> Result<(), Refusal> {
+pub fn write(writing: &mut Writing, what: &Writable) -> Result<(), Refused> {
     let mut writer = Writer {
         list: &mut writing.list,
         place: writing.place,

@@ -5,7 +5,7 @@
 use crate::cases::{parse_hex, show_hex};
 use crate::notation::{numbers, parse_clip, parse_shape, parse_writable, show_record, Writable};
 use reference::coverage::Fraction;
-use reference::refusal::Refusal;
+use reference::refusal::Refused;
 use reference::shape::{Clip, Record, Shape};
 
 /// The state of a writer, the list included.
@@ -28,7 +28,7 @@ pub struct ShapeCall {
     pub shape: Shape,
 }
 
-pub fn queries(call: &str, ask: impl Fn(&Shape, i16, i16) -> Result<Fraction, Refusal>) -> String {
+pub fn queries(call: &str, ask: impl Fn(&Shape, i16, i16) -> Result<Fraction, Refused>) -> String {
     let [shape, pixel] = fields(call);
     let [x, y] = numbers(pixel);
     match ask(&parse_shape(shape), x, y) {
@@ -37,7 +37,7 @@ pub fn queries(call: &str, ask: impl Fn(&Shape, i16, i16) -> Result<Fraction, Re
     }
 }
 
-pub fn draws(call: &str, draw: impl Fn(&mut ShapeCall) -> Result<u64, Refusal>) -> String {
+pub fn draws(call: &str, draw: impl Fn(&mut ShapeCall) -> Result<u64, Refused>) -> String {
     let [sizes, clip, shape, level] = fields(call);
     let [length, width, height]: [u16; 3] = numbers(sizes);
     let [level] = numbers(level);
@@ -58,7 +58,7 @@ pub fn draws(call: &str, draw: impl Fn(&mut ShapeCall) -> Result<u64, Refusal>) 
 
 pub fn writes(
     call: &str,
-    write: impl Fn(&mut Writing, &Writable) -> Result<(), Refusal>,
+    write: impl Fn(&mut Writing, &Writable) -> Result<(), Refused>,
 ) -> String {
     let [state, what] = fields(call);
     let [length, place, width, height]: [u16; 4] = numbers(state);
@@ -80,7 +80,7 @@ pub fn writes(
 
 pub fn reads(
     call: &str,
-    read: impl Fn(&[u8], u16, u16) -> (Result<Record, Refusal>, &[u8]),
+    read: impl Fn(&[u8], u16, u16) -> (Result<Record, Refused>, &[u8]),
 ) -> String {
     let [sizes, hex] = fields(call);
     let [width, height] = numbers(sizes);
@@ -92,7 +92,7 @@ pub fn reads(
     }
 }
 
-pub fn lists(call: &str, draw: impl Fn(&[u8], &mut [u8]) -> Result<u64, Refusal>) -> String {
+pub fn lists(call: &str, draw: impl Fn(&[u8], &mut [u8]) -> Result<u64, Refused>) -> String {
     let [length, hex] = fields(call);
     let [length] = numbers(length);
     let before = starting_page(length);
@@ -121,7 +121,7 @@ fn show_page(touched: u64, page: &[u8]) -> String {
     format!("{touched}{levels}")
 }
 
-fn refused(refusal: &Refusal, changed: bool) -> String {
+fn refused(refusal: &Refused, changed: bool) -> String {
     let suffix = if changed { " changed" } else { "" };
     format!("refused {}{suffix}", refusal.number)
 }

@@ -10,14 +10,14 @@ use checks::random::Random;
 use checks::rows::ShapeCall;
 use reference::coverage::exact_coverage;
 use reference::page::{draw_shape, page_length};
-use reference::refusal::Refusal;
-use reference::shape::{page_size_fault, Clip, Disc, Line, Ring, Shape};
+use reference::refusal::Refused;
+use reference::shape::{page_size_refusal, Clip, Disc, Line, Ring, Shape};
 
 const DRAWS: u32 = 60_000;
 /// Every class of input has to come up at least this often.
 const LEAST: u32 = 30;
 
-type Answer = Result<u64, Refusal>;
+type Answer = Result<u64, Refused>;
 
 fn reference_draw(call: &mut ShapeCall) -> Answer {
     draw_shape(
@@ -98,19 +98,19 @@ fn classes(before: &ShapeCall, after: &ShapeCall, answer: &Answer) -> Vec<String
     classes
 }
 
-/// The refusal, and the faults that it came before.
-fn refusal_classes(call: &ShapeCall, refusal: &Refusal) -> Vec<String> {
+/// The refusal, and the refusals that it came before.
+fn refusal_classes(call: &ShapeCall, refusal: &Refused) -> Vec<String> {
     let (width, height) = (call.width, call.height);
     let pixels = page_length(width, height);
     let first = refusal.number;
     let mut classes = vec![format!("refused {first}")];
     let later = [
-        page_size_fault(width, height),
-        call.clip.first_fault(width, height),
-        call.shape.coordinate_fault(),
-        call.shape.form_fault(),
+        page_size_refusal(width, height),
+        call.clip.first_refusal(width, height),
+        call.shape.coordinate_refusal(),
+        call.shape.form_refusal(),
     ];
-    let later = later.into_iter().flatten().map(|fault| fault.number());
+    let later = later.into_iter().flatten().map(|refusal| refusal.number());
     classes.extend(later.map(|next| format!("refused {first} before {next}")));
     match first {
         3 => classes.extend([format!("W is {width}"), format!("H is {height}")]),
@@ -305,7 +305,7 @@ fn a_half_gives_128_from_either_side() {
 }
 
 fn refused(number: u64) -> Answer {
-    Err(Refusal { number, place: 0 })
+    Err(Refused { number, place: 0 })
 }
 
 #[test]

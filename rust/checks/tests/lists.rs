@@ -9,7 +9,7 @@ use checks::random::Random;
 use reference::format::{encode_header, encode_record, Header, HEADER_LENGTH, LONGEST_LIST};
 use reference::list::check;
 use reference::reader::read_record;
-use reference::refusal::Refusal;
+use reference::refusal::Refused;
 use reference::shape::{Clip, Disc, Line, Record, Ring, Setting, Shape};
 
 const DAMAGED: u32 = 60_000;
@@ -24,10 +24,10 @@ const HEADER: Header = Header {
 };
 const PAGE: usize = 20 * 16;
 
-type Answer = Result<Header, Refusal>;
+type Answer = Result<Header, Refused>;
 
 fn refused(number: u64, place: usize) -> Answer {
-    Err(Refusal { number, place })
+    Err(Refused { number, place })
 }
 
 /// The answer that library and reference agree on.
@@ -46,7 +46,7 @@ fn read_length(bytes: &[u8], width: u16, height: u16) -> Option<usize> {
     expected.0.is_ok().then(|| bytes.len() - expected.1.len())
 }
 
-/// One record of each kind, without fault on the page of `HEADER`.
+/// One record of each kind, none of them refused on the page of `HEADER`.
 fn each_kind() -> Vec<Record> {
     let line = |exact| {
         let (x0, y0, x1, y1) = (-4096, 4095, 7, -2);
@@ -90,17 +90,17 @@ fn bytes_of(kind: u8, words: &[i32], last: &[u8]) -> Vec<u8> {
     bytes
 }
 
-/// Whole records with one fault each, and the number of it.
-fn faulty_records() -> Vec<(u64, Vec<u8>)> {
-    let mut faulty: Vec<(u64, Vec<u8>)> = (7..=255).map(|kind| (4, vec![kind])).collect();
+/// Whole records with one thing refused in each, and its number.
+fn refused_records() -> Vec<(u64, Vec<u8>)> {
+    let mut records: Vec<(u64, Vec<u8>)> = (7..=255).map(|kind| (4, vec![kind])).collect();
     for outside in [-32768, -4097, 4096, 32767] {
         for changed in 0..4 {
             let mut ends = [1, 2, 1, 2];
             ends[changed] = outside;
-            faulty.extend([3, 4].map(|kind| (7, bytes_of(kind, &ends, &[]))));
+            records.extend([3, 4].map(|kind| (7, bytes_of(kind, &ends, &[]))));
             let centre = &ends[changed / 2 * 2..][..2];
-            faulty.push((7, bytes_of(5, centre, &[0])));
-            faulty.push((7, bytes_of(6, centre, &[0, 0])));
+            records.push((7, bytes_of(5, centre, &[0])));
+            records.push((7, bytes_of(6, centre, &[0, 0])));
         }
     }
     let clips = [
@@ -110,12 +110,13 @@ fn faulty_records() -> Vec<(u64, Vec<u8>)> {
         [0, 0, 20, 17],
         [0, 0, 65535, 16],
     ];
-    faulty.extend(clips.map(|clip| (8, bytes_of(1, &clip, &[]))));
-    faulty.extend([3, 4].map(|kind| (9, bytes_of(kind, &[-4096, 4095, -4096, 4095], &[]))));
-    faulty.push((10, bytes_of(5, &[0, 0], &[0])));
-    faulty.extend([0, 1].map(|width| (10, bytes_of(6, &[0, 0], &[0, width]))));
-    faulty.extend([[1, 0], [255, 0], [1, 2], [254, 255]].map(|r| (11, bytes_of(6, &[0, 0], &r))));
-    faulty
+    records.extend(clips.map(|clip| (8, bytes_of(1, &clip, &[]))));
+    records.extend([3, 4].map(|kind| (9, bytes_of(kind, &[-4096, 4095, -4096, 4095], &[]))));
+    records.push((10, bytes_of(5, &[0, 0], &[0])));
+    records.extend([0, 1].map(|width| (10, bytes_of(6, &[0, 0], &[0, width]))));
+    refused_record
+        .extend([[1, 0], [255, 0], [1, 2], [254, 255]].map(|r| (11, bytes_of(6, &[0, 0], &r))));
+    records
 }
 
 /// A list of these records, and the place of each.
@@ -167,17 +168,17 @@ fn a_mixed_list_cut_at_every_byte() {
 }
 
 #[test]
-fn every_fault_at_every_record() {
+fn every_refusal_at_every_record() {
     let (list, places) = list_of(&each_kind());
-    for (number, faulty) in faulty_records() {
+    for (number, refused_record) in refused_records() {
         for &place in &places {
-            // What follows the first fault does not matter.
+            // What follows the first refusal does not matter.
             for behind in [&list[place..], &[0xFF; 20], &[]] {
-                let spoilt = [&list[..place], &faulty, behind].concat();
+                let spoilt = [&list[..place], &refused_record, behind].concat();
                 assert_eq!(checked(&spoilt, PAGE), refused(number, place));
             }
         }
-        assert_eq!(read_length(&faulty, 20, 16), None);
+        assert_eq!(read_length(&refused_record, 20, 16), None);
     }
 }
 

@@ -13,7 +13,7 @@ use reference::format::{encode_header, encode_record, Header, LONGEST_LIST};
 use reference::list::{check, draw_list, Drawn};
 use reference::natural::Natural;
 use reference::page::page_length;
-use reference::refusal::Refusal;
+use reference::refusal::Refused;
 use reference::shape::{Line, Record, Setting, Shape};
 
 const PICTURES: u32 = 20_000;
@@ -22,7 +22,7 @@ const SMALL_PICTURES: u32 = 15_000;
 /// Every class of input has to come up at least this often.
 const LEAST: u32 = 20;
 
-type Answer = Result<Drawn, Refusal>;
+type Answer = Result<Drawn, Refused>;
 
 /// Draws by both on copies of the page, and hands back what they agree on.
 fn drawn(list: &[u8], before: &[u8]) -> (Answer, Vec<u8>) {
@@ -121,7 +121,7 @@ fn random_lists_agree() {
     tally.require(named(&others), LEAST);
 }
 
-/// A list without fault and a page for it, or a list that may have faults and some page.
+/// A list that is not refused and a page for it, or a list that may have refusals and some page.
 fn list_and_page(random: &mut Random) -> (Vec<u8>, Vec<u8>) {
     if random.flip() {
         return (list(random), vec![0xAA; 1600]);
@@ -144,10 +144,10 @@ fn damaged_lists_agree() {
         let (answer, _) = drawn(&list, &page);
         tally.meet(classes(&list, &page, &answer));
     }
-    let header_faults = [5, 1, 2, 3, 21].map(|n| format!("refused {n}"));
-    tally.require(header_faults.into(), LEAST);
-    let record_faults = [4, 5, 6, 7, 8, 9, 10, 11].map(|n| format!("refused {n} further on"));
-    tally.require(record_faults.into(), LEAST);
+    let header_refusals = [5, 1, 2, 3, 21].map(|n| format!("refused {n}"));
+    tally.require(header_refusals.into(), LEAST);
+    let record_refusals = [4, 5, 6, 7, 8, 9, 10, 11].map(|n| format!("refused {n} further on"));
+    tally.require(record_refusals.into(), LEAST);
     tally.require(named(&["exact", "approximate", "disc", "ring"]), LEAST);
 }
 

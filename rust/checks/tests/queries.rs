@@ -7,14 +7,14 @@ use checks::library;
 use checks::random::Random;
 use checks::strokes::shape_and_pixel;
 use reference::coverage::{query, Fraction};
-use reference::refusal::Refusal;
+use reference::refusal::Refused;
 use reference::shape::{Line, Shape};
 
 const QUERIES: u32 = 400_000;
 /// Every class of input has to come up at least this often.
 const LEAST: u32 = 100;
 
-type Answer = Result<Fraction, Refusal>;
+type Answer = Result<Fraction, Refused>;
 
 /// Classes that a run must meet. Lines meet theirs once exact and once approximate.
 fn wanted() -> Vec<String> {
@@ -56,14 +56,14 @@ fn classes(shape: &Shape, x: i16, y: i16, answer: &Answer) -> Vec<String> {
     }
 }
 
-fn refusal_classes(shape: &Shape, x: i16, y: i16, refusal: &Refusal) -> Vec<String> {
+fn refusal_classes(shape: &Shape, x: i16, y: i16, refusal: &Refused) -> Vec<String> {
     let mut classes = vec![format!("refused {}", refusal.number)];
     if refusal.number == 7 {
         let pixel = [x, y].iter().any(|c| !(-4096..=4095).contains(c));
-        let equal = shape.form_fault().is_some() && matches!(shape, Shape::Line(_));
+        let equal = shape.form_refusal().is_some() && matches!(shape, Shape::Line(_));
         let what = match shape {
-            _ if shape.coordinate_fault().is_none() && equal => "pixel before equal ends",
-            _ if shape.coordinate_fault().is_none() && pixel => "pixel",
+            _ if shape.coordinate_refusal().is_none() && equal => "pixel before equal ends",
+            _ if shape.coordinate_refusal().is_none() && pixel => "pixel",
             Shape::Line(_) => "line end",
             _ => "centre",
         };

@@ -5,10 +5,10 @@ use checks::reference_writer::write;
 use checks::rows::{self as answers, ShapeCall};
 use reference::exact::{bound, byte_after, exact_blend, touches_at, within};
 use reference::list::{check, draw_list, Accepted};
-use reference::refusal::Refusal;
+use reference::refusal::Refused;
 use reference::{coverage, page, print, reader};
 
-fn draw(call: &mut ShapeCall) -> Result<u64, Refusal> {
+fn draw(call: &mut ShapeCall) -> Result<u64, Refused> {
     page::draw_shape(
         &mut call.page,
         call.width,

@@ -108,8 +108,8 @@ fn random_writes_agree() {
         let outcomes = ["written", "refused 3", "refused 22"];
         tally.require(outcomes.map(|o| format!("{what} {o}")).into(), LEAST);
     }
-    let faults = [7, 9, 10, 11].map(|number| format!("shape refused {number}"));
-    tally.require(faults.into(), LEAST);
+    let refusals = [7, 9, 10, 11].map(|number| format!("shape refused {number}"));
+    tally.require(refusals.into(), LEAST);
     tally.require(vec!["setting refused 8".to_string()], LEAST);
 }
 

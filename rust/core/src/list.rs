@@ -75,7 +75,7 @@ pub fn read_record(bytes: &[u8], size: Size) -> Result<(Record, &[u8]), Refusal>
 ///
 /// # Errors
 ///
-/// The first fault of the list and its place: 0 for the header's, else the first byte of the
+/// The first refusal of the list and its place: 0 for the header's, else the first byte of the
 /// record, the list's length where a record is missing, or the first surplus byte.
 ///
 /// ```

@@ -1,7 +1,7 @@
 //! The coverage of one shape at one pixel: area rule, approximate rule and chord rule.
 
-use crate::refusal::Refusal;
-use crate::shape::{coordinate_fault, Line, Shape};
+use crate::refusal::Refused;
+use crate::shape::{coordinate_refusal, Line, Shape};
 
 /// n over d, as the rules give them and never reduced.
 #[derive(Clone, Copy, Debug, PartialEq, Eq)]
@@ -19,13 +19,13 @@ fn fraction(n: i128, d: i128) -> Fraction {
 }
 
 /// The coverage query: 7 for the shape, then for the pixel, then 9, 10, 11.
-pub fn query(shape: &Shape, x: i16, y: i16) -> Result<Fraction, Refusal> {
-    let fault = shape
-        .coordinate_fault()
-        .or_else(|| coordinate_fault(&[x, y]))
-        .or_else(|| shape.form_fault());
-    match fault {
-        Some(fault) => Err(fault.at(0)),
+pub fn query(shape: &Shape, x: i16, y: i16) -> Result<Fraction, Refused> {
+    let refusal = shape
+        .coordinate_refusal()
+        .or_else(|| coordinate_refusal(&[x, y]))
+        .or_else(|| shape.form_refusal());
+    match refusal {
+        Some(refusal) => Err(refusal.at(0)),
         None => Ok(own_coverage(shape, x.into(), y.into())),
     }
 }
@@ -191,7 +191,7 @@ fn disc_cover(radius: u16, x: i32, y: i32, centre_x: i16, centre_y: i16) -> i128
 #[cfg(test)]
 mod tests {
     use super::*;
-    use crate::refusal::Fault;
+    use crate::refusal::Refusal;
     use crate::shape::{Disc, Ring};
 
     #[test]
@@ -233,7 +233,7 @@ mod tests {
     }
 
     #[test]
-    fn faults_come_in_order() {
+    fn refusals_come_in_order() {
         let number = |shape, x| query(&shape, x, 0).map_err(|refusal| refusal.number);
         let ring = Ring {
             x: 0,
@@ -243,14 +243,14 @@ mod tests {
         };
         assert_eq!(
             number(Shape::Ring(ring), 4096),
-            Err(Fault::Coordinate.number())
+            Err(Refusal::Coordinate.number())
         );
-        assert_eq!(number(Shape::Ring(ring), 0), Err(Fault::Radius.number()));
+        assert_eq!(number(Shape::Ring(ring), 0), Err(Refusal::Radius.number()));
         let disc = Disc {
             x: 0,
             y: 0,
             radius: 256,
         };
-        assert_eq!(number(Shape::Disc(disc), 0), Err(Fault::Radius.number()));
+        assert_eq!(number(Shape::Disc(disc), 0), Err(Refusal::Radius.number()));
     }
 }

@@ -1,6 +1,6 @@
 //! The bytes of a header and of each kind of record.
 
-use crate::refusal::Fault;
+use crate::refusal::Refusal;
 use crate::shape::{Clip, Disc, Line, Record, Ring, Setting, Shape};
 
 pub const LONGEST_LIST: usize = 65_536;
@@ -16,13 +16,13 @@ pub struct Header {
 }
 
 /// Reads the header: 5, 1, 2 in this order. Its sizes are judged by the caller.
-pub fn decode_header(list: &[u8]) -> Result<Header, Fault> {
+pub fn decode_header(list: &[u8]) -> Result<Header, Refusal> {
     if list.len() < HEADER_LENGTH {
-        Err(Fault::CutShort)
+        Err(Refusal::CutShort)
     } else if list[..3] != MARK {
-        Err(Fault::WrongMark)
+        Err(Refusal::WrongMark)
     } else if unsigned(list, 3) != VERSION {
-        Err(Fault::WrongVersion)
+        Err(Refusal::WrongVersion)
     } else {
         Ok(Header {
             width: unsigned(list, 5),
@@ -55,10 +55,10 @@ fn record_length(kind: u8) -> Option<usize> {
 }
 
 /// The record at the front of the bytes and its length: 5 for no byte, 4, then 5 for a cut record.
-pub fn decode_record(bytes: &[u8]) -> Result<(Record, usize), Fault> {
-    let kind = *bytes.first().ok_or(Fault::CutShort)?;
-    let length = record_length(kind).ok_or(Fault::UnknownKind)?;
-    let bytes = bytes.get(..length).ok_or(Fault::CutShort)?;
+pub fn decode_record(bytes: &[u8]) -> Result<(Record, usize), Refusal> {
+    let kind = *bytes.first().ok_or(Refusal::CutShort)?;
+    let length = record_length(kind).ok_or(Refusal::UnknownKind)?;
+    let bytes = bytes.get(..length).ok_or(Refusal::CutShort)?;
     let record = match kind {
         0 => Record::End,
         1 => Record::Setting(Setting::Clip(decode_clip(bytes))),
@@ -98,7 +98,7 @@ fn decode_line(bytes: &[u8]) -> Line {
     }
 }
 
-/// The bytes of a record without fault.
+/// The bytes of a record that is not refused.
 pub fn encode_record(record: &Record) -> Vec<u8> {
     match record {
         Record::End => vec![0],

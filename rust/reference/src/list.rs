@@ -3,8 +3,8 @@
 use crate::format::{decode_header, Header, HEADER_LENGTH, LONGEST_LIST};
 use crate::page::{page_length, paint};
 use crate::reader::lawful_record;
-use crate::refusal::{Fault, Refusal};
-use crate::shape::{page_size_fault, Clip, Record, Setting, Shape};
+use crate::refusal::{Refusal, Refused};
+use crate::shape::{page_size_refusal, Clip, Record, Setting, Shape};
 
 /// A shape with the clip and level in force for it.
 #[derive(Clone, Copy, Debug, PartialEq, Eq)]
@@ -29,8 +29,8 @@ pub struct Drawn {
 }
 
 /// Tries the whole list, as it would be drawn on a page of `page_bytes` bytes.
-pub fn check(list: &[u8], page_bytes: usize) -> Result<Accepted, Refusal> {
-    let header = check_header(list, page_bytes).map_err(|fault| fault.at(0))?;
+pub fn check(list: &[u8], page_bytes: usize) -> Result<Accepted, Refused> {
+    let header = check_header(list, page_bytes).map_err(|refusal| refusal.at(0))?;
     let records = check_records(list, &header)?;
     Ok(Accepted {
         header,
@@ -39,32 +39,32 @@ pub fn check(list: &[u8], page_bytes: usize) -> Result<Accepted, Refusal> {
 }
 
 /// 12, 5, 1, 2, 3, 21.
-fn check_header(list: &[u8], page_bytes: usize) -> Result<Header, Fault> {
+fn check_header(list: &[u8], page_bytes: usize) -> Result<Header, Refusal> {
     if list.len() > LONGEST_LIST {
-        return Err(Fault::ListTooLong);
+        return Err(Refusal::ListTooLong);
     }
     let header = decode_header(list)?;
-    if let Some(fault) = page_size_fault(header.width, header.height) {
-        return Err(fault);
+    if let Some(refusal) = page_size_refusal(header.width, header.height) {
+        return Err(refusal);
     }
     if page_bytes < page_length(header.width, header.height) {
-        return Err(Fault::PageTooShort);
+        return Err(Refusal::PageTooShort);
     }
     Ok(header)
 }
 
 /// The records before the end record: each tried 4, 5, then 7 to 11; last 6.
-fn check_records(list: &[u8], header: &Header) -> Result<Vec<Record>, Refusal> {
+fn check_records(list: &[u8], header: &Header) -> Result<Vec<Record>, Refused> {
     let mut records = Vec::new();
     let mut place = HEADER_LENGTH;
     loop {
         let (record, length) = lawful_record(&list[place..], header.width, header.height)
-            .map_err(|fault| fault.at(place))?;
+            .map_err(|refusal| refusal.at(place))?;
         place += length;
         if record != Record::End {
             records.push(record);
         } else if place < list.len() {
-            return Err(Fault::SurplusBytes.at(place));
+            return Err(Refusal::SurplusBytes.at(place));
         } else {
             return Ok(records);
         }
@@ -88,7 +88,7 @@ fn drawings(header: &Header, records: &[Record]) -> Vec<Drawing> {
 }
 
 /// Checks the list, fills the page with the background and draws every shape in order.
-pub fn draw_list(list: &[u8], page: &mut [u8]) -> Result<Drawn, Refusal> {
+pub fn draw_list(list: &[u8], page: &mut [u8]) -> Result<Drawn, Refused> {
     let accepted = check(list, page.len())?;
     let Header {
         width,
@@ -126,14 +126,17 @@ mod tests {
         while list.len() < LONGEST_LIST {
             list.extend([2, 9]);
         }
-        let missing_end = Fault::CutShort.at(LONGEST_LIST);
+        let missing_end = Refusal::CutShort.at(LONGEST_LIST);
         assert_eq!(check(&list, 1), Err(missing_end));
         list.push(0);
-        assert_eq!(check(&list, 1), Err(Fault::ListTooLong.at(0)));
+        assert_eq!(check(&list, 1), Err(Refusal::ListTooLong.at(0)));
     }
 
     #[test]
     fn a_bare_header_lacks_its_end() {
-        assert_eq!(check(&header(), 1), Err(Fault::CutShort.at(HEADER_LENGTH)));
+        assert_eq!(
+            check(&header(), 1),
+            Err(Refusal::CutShort.at(HEADER_LENGTH))
+        );
     }
 }

@@ -1,8 +1,8 @@
 //! Blending, and one shape on a lent page.
 
 use crate::coverage::{exact_coverage, own_coverage, Fraction};
-use crate::refusal::{Fault, Refusal};
-use crate::shape::{page_size_fault, Clip, Shape};
+use crate::refusal::{Refusal, Refused};
+use crate::shape::{page_size_refusal, Clip, Shape};
 
 /// The byte `old` after a blend towards `level`, rounded to the nearest with halves going up.
 pub fn blend(old: u8, level: u8, cover: Fraction) -> u8 {
@@ -29,14 +29,14 @@ pub fn draw_shape(
     clip: &Clip,
     level: u8,
     shape: &Shape,
-) -> Result<u64, Refusal> {
-    let too_short = || (page.len() < page_length(width, height)).then_some(Fault::PageTooShort);
-    let fault = page_size_fault(width, height)
+) -> Result<u64, Refused> {
+    let too_short = || (page.len() < page_length(width, height)).then_some(Refusal::PageTooShort);
+    let refusal = page_size_refusal(width, height)
         .or_else(too_short)
-        .or_else(|| clip.first_fault(width, height))
-        .or_else(|| shape.first_fault());
-    match fault {
-        Some(fault) => Err(fault.at(0)),
+        .or_else(|| clip.first_refusal(width, height))
+        .or_else(|| shape.first_refusal());
+    match refusal {
+        Some(refusal) => Err(refusal.at(0)),
         None => Ok(paint(page, width, clip, level, shape)),
     }
 }

@@ -1,7 +1,7 @@
 //! What a call can turn down, with the numbers of document 01.
 
 #[derive(Clone, Copy, Debug, PartialEq, Eq)]
-pub enum Fault {
+pub enum Refusal {
     WrongMark = 1,
     WrongVersion = 2,
     PageSize = 3,
@@ -18,14 +18,14 @@ pub enum Fault {
     NoRoom = 22,
 }
 
-impl Fault {
+impl Refusal {
     pub fn number(self) -> u64 {
         self as u64
     }
 
-    /// The refusal for this fault found at byte `place` of a list.
-    pub fn at(self, place: usize) -> Refusal {
-        Refusal {
+    /// The refusal for this refusal found at byte `place` of a list.
+    pub fn at(self, place: usize) -> Refused {
+        Refused {
             number: self.number(),
             place,
         }
@@ -34,7 +34,7 @@ impl Fault {
 
 /// The answer of a call that turned its input down. Only a whole list has a place other than 0.
 #[derive(Clone, Copy, Debug, PartialEq, Eq)]
-pub struct Refusal {
+pub struct Refused {
     pub number: u64,
     pub place: usize,
 }

@@ -1,6 +1,6 @@
-//! Shapes, clips and records, and the first fault of each.
+//! Shapes, clips and records, and the first refusal of each.
 
-use crate::refusal::Fault;
+use crate::refusal::Refusal;
 
 pub const LOWEST_COORDINATE: i16 = -4096;
 pub const HIGHEST_COORDINATE: i16 = 4095;
@@ -61,45 +61,45 @@ pub enum Record {
 }
 
 /// 3 unless both sides are from 1 to 1,024.
-pub fn page_size_fault(width: u16, height: u16) -> Option<Fault> {
+pub fn page_size_refusal(width: u16, height: u16) -> Option<Refusal> {
     let lawful = |side: u16| (1..=LARGEST_SIDE).contains(&side);
-    (!lawful(width) || !lawful(height)).then_some(Fault::PageSize)
+    (!lawful(width) || !lawful(height)).then_some(Refusal::PageSize)
 }
 
 /// 7 if any of the numbers is outside the range of coordinates.
-pub fn coordinate_fault(coordinates: &[i16]) -> Option<Fault> {
+pub fn coordinate_refusal(coordinates: &[i16]) -> Option<Refusal> {
     let lawful = |c: &i16| (LOWEST_COORDINATE..=HIGHEST_COORDINATE).contains(c);
-    (!coordinates.iter().all(lawful)).then_some(Fault::Coordinate)
+    (!coordinates.iter().all(lawful)).then_some(Refusal::Coordinate)
 }
 
-fn radius_fault(radius: u16) -> Option<Fault> {
-    (radius == 0 || radius > LARGEST_RADIUS).then_some(Fault::Radius)
+fn radius_refusal(radius: u16) -> Option<Refusal> {
+    (radius == 0 || radius > LARGEST_RADIUS).then_some(Refusal::Radius)
 }
 
 impl Shape {
     /// The first of 7, 9, 10, 11 that the shape's kind has and the shape earns.
-    pub fn first_fault(&self) -> Option<Fault> {
-        self.coordinate_fault().or_else(|| self.form_fault())
+    pub fn first_refusal(&self) -> Option<Refusal> {
+        self.coordinate_refusal().or_else(|| self.form_refusal())
     }
 
     /// 7 for a line's ends or a circle's centre.
-    pub fn coordinate_fault(&self) -> Option<Fault> {
+    pub fn coordinate_refusal(&self) -> Option<Refusal> {
         match self {
-            Shape::Line(line) => coordinate_fault(&[line.x0, line.y0, line.x1, line.y1]),
-            Shape::Disc(disc) => coordinate_fault(&[disc.x, disc.y]),
-            Shape::Ring(ring) => coordinate_fault(&[ring.x, ring.y]),
+            Shape::Line(line) => coordinate_refusal(&[line.x0, line.y0, line.x1, line.y1]),
+            Shape::Disc(disc) => coordinate_refusal(&[disc.x, disc.y]),
+            Shape::Ring(ring) => coordinate_refusal(&[ring.x, ring.y]),
         }
     }
 
     /// 9 for a line; 10 for a disc; 10, then 11 for a ring.
-    pub fn form_fault(&self) -> Option<Fault> {
+    pub fn form_refusal(&self) -> Option<Refusal> {
         match self {
             Shape::Line(line) => {
-                ((line.x0, line.y0) == (line.x1, line.y1)).then_some(Fault::EqualEnds)
+                ((line.x0, line.y0) == (line.x1, line.y1)).then_some(Refusal::EqualEnds)
             }
-            Shape::Disc(disc) => radius_fault(disc.radius),
-            Shape::Ring(ring) => radius_fault(ring.radius).or_else(|| {
-                (ring.width == 0 || ring.width > ring.radius).then_some(Fault::RingWidth)
+            Shape::Disc(disc) => radius_refusal(disc.radius),
+            Shape::Ring(ring) => radius_refusal(ring.radius).or_else(|| {
+                (ring.width == 0 || ring.width > ring.radius).then_some(Refusal::RingWidth)
             }),
         }
     }
@@ -121,19 +121,19 @@ impl Clip {
     }
 
     /// 8 unless the corners are in order and on the page.
-    pub fn first_fault(&self, width: u16, height: u16) -> Option<Fault> {
+    pub fn first_refusal(&self, width: u16, height: u16) -> Option<Refusal> {
         let lawful = self.x0 <= self.x1 && self.x1 <= width && self.y0 <= self.y1;
-        (!lawful || self.y1 > height).then_some(Fault::Clip)
+        (!lawful || self.y1 > height).then_some(Refusal::Clip)
     }
 }
 
 impl Record {
     /// The first of 7 to 11 that the record's kind has and the record earns on this page.
-    pub fn first_fault(&self, width: u16, height: u16) -> Option<Fault> {
+    pub fn first_refusal(&self, width: u16, height: u16) -> Option<Refusal> {
         match self {
             Record::End | Record::Setting(Setting::Level(_)) => None,
-            Record::Setting(Setting::Clip(clip)) => clip.first_fault(width, height),
-            Record::Shape(shape) => shape.first_fault(),
+            Record::Setting(Setting::Clip(clip)) => clip.first_refusal(width, height),
+            Record::Shape(shape) => shape.first_refusal(),
         }
     }
 }

@@ -1,8 +1,8 @@
 //! Writing a list: a header at byte 0, records at the place reached.
 
 use crate::format::{encode_header, encode_record, Header, HEADER_LENGTH, LONGEST_LIST};
-use crate::refusal::{Fault, Refusal};
-use crate::shape::{page_size_fault, Record};
+use crate::refusal::{Refusal, Refused};
+use crate::shape::{page_size_refusal, Record};
 
 /// The list being written, the place reached, and the page size held for clips.
 pub struct Writer<'a> {
@@ -14,9 +14,9 @@ pub struct Writer<'a> {
 
 impl Writer<'_> {
     /// Tried 3 for the header's own sizes, then 22.
-    pub fn write_header(&mut self, header: &Header) -> Result<(), Refusal> {
-        if let Some(fault) = page_size_fault(header.width, header.height) {
-            return Err(fault.at(0));
+    pub fn write_header(&mut self, header: &Header) -> Result<(), Refused> {
+        if let Some(refusal) = page_size_refusal(header.width, header.height) {
+            return Err(refusal.at(0));
         }
         self.put(0, &encode_header(header))?;
         self.width = header.width;
@@ -25,21 +25,21 @@ impl Writer<'_> {
     }
 
     /// Tried 3 for the sizes held, then 7 to 11 as the kind has them, then 22.
-    pub fn write_record(&mut self, record: &Record) -> Result<(), Refusal> {
-        let fault = page_size_fault(self.width, self.height)
-            .or_else(|| record.first_fault(self.width, self.height))
-            .or_else(|| (self.place < HEADER_LENGTH).then_some(Fault::NoRoom));
-        match fault {
-            Some(fault) => Err(fault.at(0)),
+    pub fn write_record(&mut self, record: &Record) -> Result<(), Refused> {
+        let refusal = page_size_refusal(self.width, self.height)
+            .or_else(|| record.first_refusal(self.width, self.height))
+            .or_else(|| (self.place < HEADER_LENGTH).then_some(Refusal::NoRoom));
+        match refusal {
+            Some(refusal) => Err(refusal.at(0)),
             None => self.put(self.place, &encode_record(record)),
         }
     }
 
     /// Copies the bytes to `start` and puts the place past them. Bytes past 65,536 do not serve.
-    fn put(&mut self, start: usize, bytes: &[u8]) -> Result<(), Refusal> {
+    fn put(&mut self, start: usize, bytes: &[u8]) -> Result<(), Refused> {
         let serving = self.list.len().min(LONGEST_LIST);
         if start > serving || bytes.len() > serving - start {
-            return Err(Fault::NoRoom.at(0));
+            return Err(Refusal::NoRoom.at(0));
         }
         self.place = start + bytes.len();
         self.list[start..self.place].copy_from_slice(bytes);
@@ -62,7 +62,7 @@ mod tests {
         };
         assert_eq!(writer.write_record(&Record::End), Ok(()));
         assert_eq!(writer.place, LONGEST_LIST);
-        let refusal = Fault::NoRoom.at(0);
+        let refusal = Refusal::NoRoom.at(0);
         assert_eq!(writer.write_record(&Record::End), Err(refusal));
         writer.place = usize::MAX;
         assert_eq!(writer.write_record(&Record::End), Err(refusal));
