@@ -6,7 +6,7 @@ use native.Mathlib.Omega.{arith}
 use Rattle.numbers.specs.Fraction.{Frac, _⊕_, Within}
 use Rattle.numbers.proofs.Fraction.{⊕-comm, triangle, within-same}
 use Rattle.bound.specs.Exact.{Touch, after, mix, whole, times}
-use Rattle.bound.specs.inner.Sound.{Sound, AllSound}
+use Rattle.bound.specs.inner.Sound.{SoundTouch, AllSound}
 use Rattle.bound.proofs.Fractions.{mix-den, mix-within, mix-off}
 
 -- all that the bound rests on: blending bytes gives a byte; its place is within half of the mixture of their places; no two
@@ -33,13 +33,13 @@ module _ (place : ℕ → ℕ) (blend : ℕ → ℕ → Frac → ℕ) (half : Fr
   Close u e b = (u ≤ 255) × Within (whole (place u)) e b
 
   -- from the rounded blend to the drawn mixture (half), to the exact mixture of the same byte (span times off), to that of e (b)
-  pub close-step : (u : ℕ) (e b : Frac) (t : Touch) → Sound t → Close u e b → Close (byteStep blend u t) (exactStep place e t) (boundStep half span b t)
+  pub close-step : (u : ℕ) (e b : Frac) (t : Touch) → SoundTouch t → Close u e b → Close (byteStep blend u t) (exactStep place e t) (boundStep half span b t)
   close-step u e b t s h = (
-    scale .byte u (t .level) (t .drawn) (h .0) (s .level-le) (s .drawn-le) (s .drawn-pos),
+    scale .byte u (t .level) (t .drawn) (h .0) (s .0) (s .1 .drawn-le) (s .1 .drawn-pos),
     subst (λ (x : Frac). Within new (exactStep place e t) (b ⊕ x)) (⊕-comm off half)
-        (triangle new exact (exactStep place e t) (off ⊕ half) b (mix-den (whole p) v (t .exact) (omega arith) (s .exact-pos))
-        (triangle new drawn exact half off (mix-den (whole p) v (t .drawn) (omega arith) (s .drawn-pos)) rounded moved)
-        (mix-within (whole p) e b v (t .exact) (s .exact-le) (h .1))),
+        (triangle new exact (exactStep place e t) (off ⊕ half) b (mix-den (whole p) v (t .exact) (omega arith) (s .1 .exact-pos))
+        (triangle new drawn exact half off (mix-den (whole p) v (t .drawn) (omega arith) (s .1 .drawn-pos)) rounded moved)
+        (mix-within (whole p) e b v (t .exact) (s .1 .exact-le) (h .1))),
   )
     where
       p : ℕ
@@ -61,13 +61,13 @@ module _ (place : ℕ → ℕ) (blend : ℕ → ℕ → Frac → ℕ) (half : Fr
       exact = mix (whole p) v (t .exact)
 
       rounded : Within new drawn half
-      rounded = scale .rounds u (t .level) (t .drawn) (h .0) (s .level-le) (s .drawn-le) (s .drawn-pos)
+      rounded = scale .rounds u (t .level) (t .drawn) (h .0) (s .0) (s .1 .drawn-le) (s .1 .drawn-pos)
 
       moved : Within drawn exact off
       moved =
-          let up = scale .reach (t .level) u (s .level-le) (h .0) in
-          let down = scale .reach u (t .level) (h .0) (s .level-le) in
-          mix-off p v span (t .off) up down (t .drawn) (t .exact) (s .drawn-le) (s .exact-le) (s .near)
+          let up = scale .reach (t .level) u (s .0) (h .0) in
+          let down = scale .reach u (t .level) (h .0) (s .0) in
+          mix-off p v span (t .off) up down (t .drawn) (t .exact) (s .1 .drawn-le) (s .1 .exact-le) (s .1 .near)
 
   close-from : (u : ℕ) (e b : Frac) (ts : List Touch) → AllSound ts → Close u e b
       → Close (after (byteStep blend) u ts) (after (exactStep place) e ts) (after (boundStep half span) b ts)
@@ -82,7 +82,7 @@ module _ (place : ℕ → ℕ) (blend : ℕ → ℕ → Frac → ℕ) (half : Fr
   close u ts hu s = close-from u (whole (place u)) (whole 0) ts s (hu, within-same (whole (place u)) (whole (place u)) (whole 0) refl)
 
 -- a denominator that no touch makes 0 is not 0 after them
-pub after-den : (f : Frac → Touch → Frac) → ((e : Frac) (t : Touch) → Sound t → 0 < e .den → 0 < f e t .den)
+pub after-den : (f : Frac → Touch → Frac) → ((e : Frac) (t : Touch) → SoundTouch t → 0 < e .den → 0 < f e t .den)
     → (e : Frac) (ts : List Touch) → AllSound ts → 0 < e .den → 0 < after f e ts .den
 unfolding after
 after-den f keep e [] s pos = pos

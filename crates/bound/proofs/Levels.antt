@@ -49,9 +49,9 @@ close-to-exact u ts hu s = close level blendBy half span levels u ts hu s .1
 -- ---- no denominator is 0: with one that is, a cross product would hold of anything
 pub exact-den : (e : Frac) (ts : List Touch) → AllSound ts → 0 < e .den → 0 < exactAfter e ts .den
 unfolding exactAfter
-exact-den = after-den (exactStep level) (λ e t s pos. mix-den e (t .level) (t .exact) pos (s .exact-pos))
+exact-den = after-den (exactStep level) (λ e t s pos. mix-den e (t .level) (t .exact) pos (s .1 .exact-pos))
 
 pub bound-den : (ts : List Touch) → AllSound ts → 0 < boundOf ts .den
 unfolding boundOf half
 bound-den ts s =
-    after-den (boundStep half span) (λ b t s pos. mul-pos pos (mul-pos {m = 2} (omega arith) (s .off-pos))) (whole 0) ts s (omega arith)
+    after-den (boundStep half span) (λ b t s pos. mul-pos pos (mul-pos {m = 2} (omega arith) (s .1 .off-pos))) (whole 0) ts s (omega arith)

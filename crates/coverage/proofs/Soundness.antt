@@ -9,6 +9,7 @@ use native.Mathlib.Omega.{arith}
 use lib.Dec.{ltb}
 use lib.IntN.{ℤ, pos, negsuc, natAbs}
 use Rattle.numbers.specs.Fraction.{_over_, Within}
+use Rattle.numbers.specs.inner.Sound.{Sound}
 use Rattle.numbers.proofs.Fraction.{within-same}
 use Rattle.shapes.specs.Limits.{shapeRefusal}
 use Rattle.shapes.specs.declared.Line.{Line}
@@ -69,18 +70,12 @@ module _ (n : Line) (w : LawfulLine n) (x y : ℤ) where
       (within-same (0 over approxWhole l) (0 over exactWhole l s) (s over 4 * l) (omega arith))
       (λ i. near l s i (frameRow n x y) long (span-le n))
 
--- the exact coverage of a pixel, and the one that is drawn
-pub record Sound (r : Rules) (x y : ℤ) : Type 0 where
-  pub exact-le : r .exact .part x y ≤ r .exact .whole
-  pub exact-pos : 0 < r .exact .whole
-  pub drawn-le : r .drawn .part x y ≤ r .drawn .whole
-  pub drawn-pos : 0 < r .drawn .whole
-  pub off-pos : 0 < r .off .den
-  pub touched : (0 < r .exact .part x y) ↔ (0 < r .drawn .part x y)
-  pub near : Within (r .drawn .part x y over r .drawn .whole) (r .exact .part x y over r .exact .whole) (r .off)
+-- a pixel under the rules of a shape
+abbrev pub SoundAt : Rules → ℤ → ℤ → Type 0
+SoundAt r x y = Sound (r .drawn .part x y over r .drawn .whole) (r .exact .part x y over r .exact .whole) (r .off)
 
 -- a shape that is drawn with its exact coverage
-alike-sound : (r : Rule) (x y : ℤ) → r .part x y ≤ r .whole → 0 < r .whole → Sound (alike r) x y
+alike-sound : (r : Rule) (x y : ℤ) → r .part x y ≤ r .whole → 0 < r .whole → SoundAt (alike r) x y
 alike-sound r x y h p =
     record {
       exact-le = h;
@@ -92,7 +87,7 @@ alike-sound r x y h p =
       near = within-same (r .part x y over r .whole) (r .part x y over r .whole) (0 over 1) refl;
     }
 
-line-sound : (n : Line) → LawfulLine n → (x y : ℤ) (t : Bool) → Sound (lineRules t n) x y
+line-sound : (n : Line) → LawfulLine n → (x y : ℤ) (t : Bool) → SoundAt (lineRules t n) x y
 unfolding lineRules approxWhole
 line-sound n w x y true = alike-sound (exactRule n) x y (line-exact-le n w x y) (whole-pos (longer n) (shorter n) (long n w x y))
 line-sound n w x y false =
@@ -107,7 +102,7 @@ line-sound n w x y false =
       near = line-near n w x y;
     }
 
-pub sound : (s : Shape) (x y : ℤ) → shapeRefusal s ≡ 0 → Sound (rulesOf s) x y
+pub sound : (s : Shape) (x y : ℤ) → shapeRefusal s ≡ 0 → SoundAt (rulesOf s) x y
 unfolding rulesOf
 sound (line n) x y z = line-sound n (line-lawful n z) x y (n .exact)
 sound (disc d) x y z = alike-sound (chordRule (discCover (d .radius) (d .x) (d .y))) x y (disc-le (d .radius) (d .x) (d .y) x y) (omega arith)

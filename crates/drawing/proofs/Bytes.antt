@@ -22,7 +22,7 @@ use Rattle.lists.specs.List.{Records, accepted, refused, pageRecords, checkedAs
 use Rattle.lists.specs.declared.format.Header.{Header}
 use Rattle.lists.specs.declared.check.Checked.the-variants.{Accepted, Refused}
 use Rattle.bound.specs.Exact.{Touch, whole, byteAfter}
-use Rattle.bound.specs.inner.Sound.{Sound, AllSound}
+use Rattle.bound.specs.inner.Sound.{AllSound}
 use Rattle.bound.proofs.Levels.{close-to-exact, exact-den, bound-den}
 use Rattle.draw.specs.Touch.{touched}
 use Rattle.draw.proofs.Refusals.{view-lawful}
@@ -61,26 +61,13 @@ page-whole w h b ds l m room e =
 
 -- ---- the bound
 
-touch-sound : (d : Drawing) (x y : ℕ) → d .settings .level ≤ 255 → shapeRefusal (d .shape) ≡ 0 → Sound (touchOf d x y)
-touch-sound d x y v z =
-    let s = sound (d .shape) (pos x) (pos y) z in
-    record {
-      level-le = v;
-      drawn-le = s .drawn-le;
-      drawn-pos = s .drawn-pos;
-      exact-le = s .exact-le;
-      exact-pos = s .exact-pos;
-      off-pos = s .off-pos;
-      near = s .near;
-    }
-
 touches-sound : (ds : List Drawing) (x y : ℕ) → AllLawful ds → AllSound (touchesAt ds x y)
 unfolding AllLawful touchesAt
 touches-sound [] x y a = tt
 touches-sound (d ∷ ds) x y a = go (touched (d .settings .clip) (d .shape) x y) (touches-sound ds x y (a .2))
   where
     go : (k : Bool) → AllSound (touchesAt ds x y) → AllSound (cond k (touchOf d x y ∷ touchesAt ds x y) (touchesAt ds x y))
-    go true s = (touch-sound d x y (a .0) (a .1), s)
+    go true s = ((a .0, sound (d .shape) (pos x) (pos y) (a .1)), s)
     go false s = s
 
 pub near : (b : ℕ) (ts : List Touch) → b ≤ 255 → AllSound ts → ByteBounded (byteAfter b ts) b ts

@@ -15,7 +15,7 @@ use mir.Facts.{toZ-ofZ, ofZ-toZ}
 use Rattle.numbers.specs.inner.Order.{dist}
 use Rattle.numbers.proofs.Order.{lt-or-le}
 use Rattle.numbers.specs.Coordinate.{inRange, bitsOf, signedOf, wordOf, bytesOf}
-use Rattle.numbers.specs.inner.Offset.{offsetOf}
+use Rattle.numbers.specs.inner.Offset.{origin, offsetOf}
 use Rattle.numbers.proofs.Integer.{Diff, plus, minus, diff-of, diff-pos, diff-add, diff-minus, diff-shift, diff-unique, diff-eq, diff-le, le-diff, diff-abs, is-below, nonNeg-diff, sfits-diff}
 
 -- ---- the range
@@ -24,24 +24,24 @@ both : (a b : Bool) → T (a && b) → T a × T b
 both true b t = (tt, t)
 both false b t = absurd t
 
-range-parts : (z : ℤ) → T (inRange z) → (plus z < 4096 + minus z) × (minus z ≤ plus z + 4096)
+range-parts : (z : ℤ) → T (inRange z) → (plus z < origin + minus z) × (minus z ≤ plus z + origin)
 range-parts z t =
     let p = both (leZ (negsuc 4095) z) (leZ z (pos 4095)) t in
-    omega (arith, diff-le (diff-of z) (diff-pos 4095) (p .1), diff-le (is-below {n = 4095} {a = 0} {b = 4096} refl) (diff-of z) (p .0))
+    omega (arith, diff-le (diff-of z) (diff-pos 4095) (p .1), diff-le (is-below {n = 4095} {a = 0} {b = origin} refl) (diff-of z) (p .0))
 
 -- a coordinate and 4,096
 module _ (z : ℤ) (t : T (inRange z)) where
-  raised : Diff (z +ℤ pos 4096) (plus z + 4096) (minus z + 0)
-  raised = diff-add (diff-of z) (diff-pos 4096)
+  raised : Diff (z +ℤ pos origin) (plus z + origin) (minus z + 0)
+  raised = diff-add (diff-of z) (diff-pos origin)
 
-  pub raised-fits : SFits w16 (z +ℤ pos 4096)
+  pub raised-fits : SFits w16 (z +ℤ pos origin)
   raised-fits = sfits-diff raised (omega (arith, range-parts z t)) (omega (arith, range-parts z t))
 
-  pub raised-nonNeg : T (nonNeg (z +ℤ pos 4096))
+  pub raised-nonNeg : T (nonNeg (z +ℤ pos origin))
   raised-nonNeg = nonNeg-diff raised (omega (arith, range-parts z t))
 
 -- ---- the offset
-pub offset-in : (z : ℤ) → inRange z ≡ true → natAbs (z +ℤ pos 4096) ≡ offsetOf z
+pub offset-in : (z : ℤ) → inRange z ≡ true → natAbs (z +ℤ pos origin) ≡ offsetOf z
 unfolding offsetOf
 offset-in z e = rw e
 
@@ -53,14 +53,14 @@ offset-out z e = rw e
 pub record InRange (z : ℤ) : Type 0 where
   pub test : inRange z ≡ true
   pub less : offsetOf z < 8192
-  pub diff : Diff z (offsetOf z) 4096
+  pub diff : Diff z (offsetOf z) origin
 
 pub in-range : (z : ℤ) → inRange z ≡ true → InRange z
 unfolding offsetOf
 in-range z e =
     let t : T (inRange z) = subst T (sym e) tt in
-    let k = diff-eq (pos-natAbs (z +ℤ pos 4096) (raised-nonNeg z t)) (diff-pos (natAbs (z +ℤ pos 4096))) (raised z t) in
-    record { test = e; less = rw e (omega (arith, range-parts z t)); diff = rw e (diff-shift (natAbs (z +ℤ pos 4096)) 4096 (diff-of z) (omega arith)) }
+    let k = diff-eq (pos-natAbs (z +ℤ pos origin) (raised-nonNeg z t)) (diff-pos (natAbs (z +ℤ pos origin))) (raised z t) in
+    record { test = e; less = rw e (omega (arith, range-parts z t)); diff = rw e (diff-shift (natAbs (z +ℤ pos origin)) origin (diff-of z) (omega arith)) }
 
 -- the range by the offset
 pub range-offset : (z : ℤ) → inRange z ≡ ltb (offsetOf z) 8192
@@ -140,7 +140,7 @@ offset-kept f e = rw (toZ-ofZ f) at e
 pub pixel-in : (n : ℕ) → n ≤ 4095 → inRange (pos n) ≡ true
 pixel-in n h = rw (le-leb n 4095 h)
 
-pub pixel-offset : (n : ℕ) → n ≤ 4095 → offsetOf (pos n) ≡ n + 4096
+pub pixel-offset : (n : ℕ) → n ≤ 4095 → offsetOf (pos n) ≡ n + origin
 pixel-offset n h = sym (offset-in (pos n) (pixel-in n h))
 
 -- the order of two coordinates by their offsets

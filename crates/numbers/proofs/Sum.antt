@@ -1,10 +1,11 @@
--- Laws of sums over a range.
+-- Laws of sums over a range, and over a list.
 use mathlib.Core.Path.{_≡_, refl, ap, ap₂, _∙_}
+use mathlib.Core.List.{List, [], _∷_, _++_}
 use Prim.Native.Nat.{ℕ, zero, suc, _+_, _-_, _*_, _≤_, _<_}
 use native.Mathlib.Nat.{add-zero, zero-add, add-suc, suc-mul}
 use native.Mathlib.Numerals.{add-one}
 use native.Mathlib.Omega.{arith}
-use Rattle.numbers.specs.Sum.{sumTo}
+use Rattle.numbers.specs.Sum.{sumTo, total}
 
 pub sum-none : (f : ℕ → ℕ) → sumTo 0 f ≡ 0
 unfolding sumTo
@@ -66,3 +67,21 @@ sum-one n a f b h =
   where
     one : a + 1 - a ≡ suc zero
     one = omega arith
+
+-- ---- sums over a list
+module _ {ℓ} {A : Type ℓ} where
+  pub total-++ : (m : A → ℕ) (xs ys : List A) → total m (xs ++ ys) ≡ total m xs + total m ys
+  unfolding total
+  total-++ m [] ys = omega arith
+  total-++ m (x ∷ xs) ys = omega (arith, total-++ m xs ys)
+
+  pub total-ext : (m n : A → ℕ) (xs : List A) → ((a : A) → m a ≡ n a) → total m xs ≡ total n xs
+  unfolding total
+  total-ext m n [] h = refl
+  total-ext m n (x ∷ xs) h = ap₂ _+_ (h x) (total-ext m n xs h)
+
+  -- a sum of totals is the total of the sums
+  pub sum-total : (n : ℕ) (m : ℕ → A → ℕ) (xs : List A) → sumTo n (λ k. total (m k) xs) ≡ total (λ a. sumTo n (λ k. m k a)) xs
+  unfolding total
+  sum-total n m [] = sum-zero n (λ k. 0) (λ k b. refl)
+  sum-total n m (x ∷ xs) = sum-add n (λ k. m k x) (λ k. total (m k) xs) ∙ ap (λ (t : ℕ). sumTo n (λ k. m k x) + t) (sum-total n m xs)

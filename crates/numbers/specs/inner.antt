@@ -1,3 +1,4 @@
 -- What the functions within compute; no entry point cites it.
 pub mod Order
 pub mod Offset
+pub mod Sound

@@ -1,9 +1,12 @@
 // Whole-number arithmetic that the other crates share.
 ghost use mathlib.Core.Path.{_≡_};
-ghost use Prim.Native.Nat.{_≤_, _<_};
+ghost use Prim.Native.Nat.{_-_, _≤_, _<_, min, max};
 ghost use Rattle.numbers.specs.inner.Order.{dist, Product, Remainder};
 ghost use Rattle.numbers.specs.Coordinate.{inRange, bitsOf, signedOf, wordOf, bytesOf};
 ghost use Rattle.numbers.specs.inner.Offset.{offsetOf};
+
+// The offset of coordinate 0.
+pub const ORIGIN: u64 = 4096;
 
 // A product of two 16-bit numbers.
 pub fn product(a: u64, b: u64) -> u64
@@ -19,6 +22,25 @@ pub fn remainder(n: u64, m: u64) -> u64
     ensures { λ r. ⌜ Remainder n m r ⌝ }
 {
     n % m
+}
+
+pub fn lesser(a: u64, b: u64) -> u64
+    ensures { λ r. ⌜ r ≡ min a b ⌝ }
+{
+    if a <= b { a } else { b }
+}
+
+pub fn greater(a: u64, b: u64) -> u64
+    ensures { λ r. ⌜ r ≡ max a b ⌝ }
+{
+    if a <= b { b } else { a }
+}
+
+// a less b, brought up to 0.
+pub fn less(a: u64, b: u64) -> u64
+    ensures { λ r. ⌜ r ≡ a - b ⌝ }
+{
+    if b <= a { a - b } else { 0 }
 }
 
 // How far a and b are apart.
@@ -39,7 +61,11 @@ pub fn in_range(c: i16) -> bool
 pub fn offset(c: i16) -> u64
     ensures { λ r. ⌜ r ≡ offsetOf c ⌝ }
 {
-    if in_range(c) { (c + 4096) as u64 } else { 8192 }
+    if in_range(c) {
+        (c + ORIGIN as i16) as u64
+    } else {
+        8192
+    }
 }
 
 // The 16 bits of a signed number.
