@@ -18,7 +18,7 @@ use Rattle.page.specs.Page.{over}
 use Rattle.page.proofs.Over.{over-part, getD-over}
 use Rattle.page.proofs.Paint.{row-end, row-of, column-of}
 use Rattle.lists.specs.Format.{headerAt, basisOf}
-use Rattle.lists.specs.List.{Records, accepted, refused, recordsOf, checkedAs, checkedOf}
+use Rattle.lists.specs.List.{Records, accepted, refused, pageRecords, checkedAs, checkedOf}
 use Rattle.lists.specs.declared.format.Header.{Header}
 use Rattle.lists.specs.declared.check.Checked.the-variants.{Accepted, Refused}
 use Rattle.bound.specs.Exact.{Touch, whole, byteAfter}
@@ -97,9 +97,9 @@ all-near w h b ds l room v a x y i j =
 abbrev pub Claimed : Header → Records → List ℕ → Answer → List ℕ → Type 0
 Claimed d x l r m = (r ≡ listAnswer d x) × ((m ≡ listPage d x l) × (Bounded d x m × (r ≡ answerByPixels d x)))
 
-pub refused-claim : (s l : List ℕ) (f place : ℕ) → Refused f place ≡ checkedOf s (length l) → Claimed (headerAt s) (recordsOf s (length l)) l (refusedAt f place) l
+pub refused-claim : (s l : List ℕ) (f place : ℕ) → Refused f place ≡ checkedOf s (length l) → Claimed (headerAt s) (pageRecords s (length l)) l (refusedAt f place) l
 unfolding listAnswer answerByPixels listPage Bounded
-refused-claim s l f place e = go (recordsOf s (length l)) e
+refused-claim s l f place e = go (pageRecords s (length l)) e
   where
     go : (x : Records) → Refused f place ≡ checkedAs (headerAt s) x → Claimed (headerAt s) x l (refusedAt f place) l
     go (accepted rs) k = absurd (let z : _≡_ {A = ℕ} 0 1 = cc in omega arith)
@@ -113,7 +113,7 @@ module _ (s l : List ℕ) (d : Header) (e : Accepted d ≡ checkedOf s (length l
   lent = let fits = room s (length l) d e in simp length-take (omega arith)
 
   pub lent-drawable : Drawable s (basisOf d) (length (take (d .w * d .h) l))
-  lent-drawable = let k = lent in record { walk = list-walkable s (length l) d e; room = omega arith }
+  lent-drawable = let k = lent in record { walk = list-walkable (found s (length l) d e); room = omega arith }
 
   pub few : d .w * d .h < 2 ^ 64
   few =
@@ -124,12 +124,12 @@ module _ (s l : List ℕ) (d : Header) (e : Accepted d ≡ checkedOf s (length l
   module _ (p : List ℕ) (t : ℕ) (painted-are : p ≡ touchedPage (d .w) (d .background) (listDrawings (basisOf d) s) (take (d .w * d .h) l))
       (count : t ≡ shapesCount (d .w) (d .h) (listDrawings (basisOf d) s)) (lawful : AllLawful (listDrawings (basisOf d) s)) (byte : d .background ≤ 255) where
     count-is : t ≡ shapesCount (d .w) (d .h) (drawings (basisOf d) records)
-    count-is = count ∙ ap (shapesCount (d .w) (d .h)) (drawings-are s (length l) d e)
+    count-is = count ∙ ap (shapesCount (d .w) (d .h)) (drawings-are (found s (length l) d e))
 
     page-is : p ++ drop (d .w * d .h) l ≡ drawnPage (d .w) (d .h) (d .background) (drawings (basisOf d) records) l
     page-is =
         page-whole (d .w) (d .h) (d .background) (drawings (basisOf d) records) l p (room s (length l) d e)
-        (painted-are ∙ ap (λ (ds : List Drawing). touchedPage (d .w) (d .background) ds (take (d .w * d .h) l)) (drawings-are s (length l) d e))
+        (painted-are ∙ ap (λ (ds : List Drawing). touchedPage (d .w) (d .background) ds (take (d .w * d .h) l)) (drawings-are (found s (length l) d e)))
 
     records-claim : Claimed d (accepted records) l (Drawn (d .w) (d .h) t) (p ++ drop (d .w * d .h) l)
     unfolding listAnswer answerByPixels listPage Bounded
@@ -140,9 +140,9 @@ module _ (s l : List ℕ) (d : Header) (e : Accepted d ≡ checkedOf s (length l
             → ByteBounded (getD (p ++ drop (d .w * d .h) l) (y * d .w + x) 0) (d .background) (touchesAt (drawings (basisOf d) records) x y)
         bounded x y i j =
             subst (λ (m : List ℕ). ByteBounded (getD m (y * d .w + x) 0) (d .background) (touchesAt (drawings (basisOf d) records) x y)) (sym page-is)
-            (all-near (d .w) (d .h) (d .background) (drawings (basisOf d) records) l (room s (length l) d e) byte (subst AllLawful (drawings-are s (length l) d e) lawful) x y i j)
+            (all-near (d .w) (d .h) (d .background) (drawings (basisOf d) records) l (room s (length l) d e) byte (subst AllLawful (drawings-are (found s (length l) d e)) lawful) x y i j)
 
-    pub accepted-claim : Claimed (headerAt s) (recordsOf s (length l)) l (Drawn (d .w) (d .h) t) (p ++ drop (d .w * d .h) l)
+    pub accepted-claim : Claimed (headerAt s) (pageRecords s (length l)) l (Drawn (d .w) (d .h) t) (p ++ drop (d .w * d .h) l)
     accepted-claim =
-        subst (λ (q : Header). Claimed q (recordsOf s (length l)) l (Drawn (d .w) (d .h) t) (p ++ drop (d .w * d .h) l)) (found s (length l) d e .header)
+        subst (λ (q : Header). Claimed q (pageRecords s (length l)) l (Drawn (d .w) (d .h) t) (p ++ drop (d .w * d .h) l)) (found s (length l) d e .header)
         (subst (λ (x : Records). Claimed d x l (Drawn (d .w) (d .h) t) (p ++ drop (d .w * d .h) l)) (sym (found s (length l) d e .is)) records-claim)

@@ -10,7 +10,7 @@ ghost use lib.ListN.{length};
 ghost use Rattle.shapes.specs.Limits.{recordRefusal};
 ghost use Rattle.page.specs.inner.Paint.{Lawful};
 ghost use Rattle.lists.specs.Format.{headerAt};
-ghost use Rattle.lists.specs.List.{recordsOf};
+ghost use Rattle.lists.specs.List.{pageRecords};
 ghost use Rattle.lists.specs.inner.Walk.{listDrawings};
 ghost use Rattle.draw.specs.inner.View.{viewOf};
 ghost use Rattle.lists.specs.Drawing.{drawingOf};
@@ -70,10 +70,10 @@ fn paint(page: &mut [u8], list: &[u8], basis: Basis, background: u8) -> u64
 
 // Draws a list on a page, or refuses it and leaves the page as it was. The list is checked whole before a byte of the page is written.
 pub fn draw_list(page: &mut [u8], list: &[u8]) -> Answer
-    ensures { λ r. ⌜ r ≡ listAnswer (headerAt (now (list .entry))) (recordsOf (now (list .entry)) (length (now (page .entry)))) ⌝ }
-    ensures { λ r. ⌜ now (page .exit) ≡ listPage (headerAt (now (list .entry))) (recordsOf (now (list .entry)) (length (now (page .entry)))) (now (page .entry)) ⌝ }
-    ensures { λ r. ⌜ Bounded (headerAt (now (list .entry))) (recordsOf (now (list .entry)) (length (now (page .entry)))) (now (page .exit)) ⌝ }
-    ensures { λ r. ⌜ r ≡ answerByPixels (headerAt (now (list .entry))) (recordsOf (now (list .entry)) (length (now (page .entry)))) ⌝ }
+    ensures { λ r. ⌜ r ≡ listAnswer (headerAt (now (list .entry))) (pageRecords (now (list .entry)) (length (now (page .entry)))) ⌝ }
+    ensures { λ r. ⌜ now (page .exit) ≡ listPage (headerAt (now (list .entry))) (pageRecords (now (list .entry)) (length (now (page .entry)))) (now (page .entry)) ⌝ }
+    ensures { λ r. ⌜ Bounded (headerAt (now (list .entry))) (pageRecords (now (list .entry)) (length (now (page .entry)))) (now (page .exit)) ⌝ }
+    ensures { λ r. ⌜ r ≡ answerByPixels (headerAt (now (list .entry))) (pageRecords (now (list .entry)) (length (now (page .entry)))) ⌝ }
 {
     let checked = lists::check::check_list(list, page.len());
     match checked {

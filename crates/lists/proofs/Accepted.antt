@@ -1,5 +1,6 @@
 -- The records of an accepted list: what a walk over them finds at each.
 use mathlib.Core.Path.{_≡_, refl, sym, _∙_, ap, subst}
+use mathlib.Core.Bool.{Bool}
 use mathlib.Core.Logic.{_⊎_, inl, inr}
 use mathlib.Core.List.{List, [], _∷_}
 use Prim.Native.Nat.{ℕ, zero, suc, _+_, _≤_, _<_}
@@ -11,7 +12,7 @@ use Rattle.shapes.specs.declared.Basis.{Basis}
 use Rattle.shapes.specs.declared.Record.{Record}
 use Rattle.lists.specs.Format.{headerSize, headerAt, basisOf, kindAt, sizeAt, recordAt}
 use Rattle.lists.specs.Read.{readRefusal}
-use Rattle.lists.specs.List.{Records, accepted, refused, onto, behindEnd, headerRefusal, recordsFrom, recordsOf, checkedAs, checkedOf}
+use Rattle.lists.specs.List.{Records, accepted, refused, onto, behindEnd, headerRefusal, recordsFrom, recordsOf, checkedAs}
 use Rattle.lists.specs.declared.format.Header.{Header}
 use Rattle.lists.specs.declared.check.Checked.the-variants.{Accepted}
 use Rattle.lists.proofs.Refusals.{Readable, readable}
@@ -65,30 +66,30 @@ holds b (suc fuel) s place rs e =
         subst (Holds b s) (sym (t .same)) (more none k (after (t .rest) (t .is)))
 
 -- ---- a whole list
-pub list-headed : (s : List ℕ) (n : ℕ) (rs : List Record) → recordsOf s n ≡ accepted rs → headerRefusal s n ≡ 0
+pub list-headed : (tests : List (Bool × ℕ)) (s : List ℕ) (rs : List Record) → recordsOf tests s ≡ accepted rs → headerRefusal tests s ≡ 0
 unfolding recordsOf
-list-headed s n rs e = go (lt-or-le 0 (headerRefusal s n))
+list-headed tests s rs e = go (lt-or-le 0 (headerRefusal tests s))
   where
-    go : (0 < headerRefusal s n) ⊎ (headerRefusal s n ≤ 0) → headerRefusal s n ≡ 0
-    go (inl h) = absurd (never (rw (lt-ltb 0 (headerRefusal s n) h) at e))
+    go : (0 < headerRefusal tests s) ⊎ (headerRefusal tests s ≤ 0) → headerRefusal tests s ≡ 0
+    go (inl h) = absurd (never (rw (lt-ltb 0 (headerRefusal tests s) h) at e))
     go (inr h) = omega arith
 
-pub list-holds : (s : List ℕ) (n : ℕ) (rs : List Record) → recordsOf s n ≡ accepted rs → Holds (basisOf (headerAt s)) (drop headerSize s) rs
+pub list-holds : (tests : List (Bool × ℕ)) (s : List ℕ) (rs : List Record) → recordsOf tests s ≡ accepted rs → Holds (basisOf (headerAt s)) (drop headerSize s) rs
 unfolding recordsOf
-list-holds s n rs e =
-    let none = list-headed s n rs e in
+list-holds tests s rs e =
+    let none = list-headed tests s rs e in
     holds (basisOf (headerAt s)) (suc (length s)) (drop headerSize s) headerSize rs (rw none at e)
 
 -- the check's answer for it
-pub record AcceptedAs (s : List ℕ) (n : ℕ) (d : Header) : Type 0 where
+pub record AcceptedAs (tests : List (Bool × ℕ)) (s : List ℕ) (d : Header) : Type 0 where
   pub records : List Record
-  pub is : recordsOf s n ≡ accepted records
+  pub is : recordsOf tests s ≡ accepted records
   pub header : d ≡ headerAt s
 
-pub checked-accepted : (s : List ℕ) (n : ℕ) (d : Header) → checkedOf s n ≡ Accepted d → AcceptedAs s n d
-checked-accepted s n d e = go (recordsOf s n) refl e
+pub checked-accepted : (tests : List (Bool × ℕ)) (s : List ℕ) (d : Header) → checkedAs (headerAt s) (recordsOf tests s) ≡ Accepted d → AcceptedAs tests s d
+checked-accepted tests s d e = go (recordsOf tests s) refl e
   where
-    go : (x : Records) → recordsOf s n ≡ x → checkedAs (headerAt s) x ≡ Accepted d → AcceptedAs s n d
+    go : (x : Records) → recordsOf tests s ≡ x → checkedAs (headerAt s) x ≡ Accepted d → AcceptedAs tests s d
     go (accepted rs) k f = record { records = rs; is = k; header = cc }
     go (refused g place) k f = absurd (let z : _≡_ {A = ℕ} 0 1 = cc in omega arith)
 

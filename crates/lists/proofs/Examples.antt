@@ -9,7 +9,7 @@ use Rattle.shapes.specs.declared.Shape.the-variants.{Line as line}
 use Rattle.shapes.specs.declared.Record.the-variants.{End as end, Shape as shape}
 use Rattle.lists.specs.Format.{kindSize, decoded}
 use Rattle.lists.specs.Read.{readRefusal}
-use Rattle.lists.specs.List.{accepted, refused, headerRefusal, recordsFrom, recordsOf}
+use Rattle.lists.specs.List.{accepted, refused, headerRefusal, recordsFrom, recordsOf, pageRecords}
 
 -- a page of 4 by 3, black
 abbrev start : List ℕ
@@ -24,10 +24,10 @@ abbrev point : List ℕ
 point = 3 ∷ 1 ∷ 0 ∷ 1 ∷ 0 ∷ 1 ∷ 0 ∷ 1 ∷ 0 ∷ []
 
 -- as it stands; on a page that is too short; without an end record; with a surplus byte; with a refusal and a surplus byte
-worked : (recordsOf (start ++ stroke ++ 0 ∷ []) 12 ≡ accepted (shape (line (record { exact = true; x0 = pos 1; y0 = pos 1; x1 = pos 3; y1 = pos 2 })) ∷ end ∷ []))
-    × (recordsOf (start ++ stroke ++ 0 ∷ []) 11 ≡ refused 21 0)
-    × (recordsOf (start ++ stroke) 12 ≡ refused 5 19)
-    × (recordsOf (start ++ stroke ++ 0 ∷ 0 ∷ []) 12 ≡ refused 6 20)
-    × (recordsOf (start ++ point ++ 0 ∷ 0 ∷ []) 12 ≡ refused 9 10)
+worked : (pageRecords (start ++ stroke ++ 0 ∷ []) 12 ≡ accepted (shape (line (record { exact = true; x0 = pos 1; y0 = pos 1; x1 = pos 3; y1 = pos 2 })) ∷ end ∷ []))
+    × (pageRecords (start ++ stroke ++ 0 ∷ []) 11 ≡ refused 21 0)
+    × (pageRecords (start ++ stroke) 12 ≡ refused 5 19)
+    × (pageRecords (start ++ stroke ++ 0 ∷ 0 ∷ []) 12 ≡ refused 6 20)
+    × (pageRecords (start ++ point ++ 0 ∷ 0 ∷ []) 12 ≡ refused 9 10)
 unfolding sizeRefusal offSize shapeRefusal offRange refusalsOf recordRefusal kindSize decoded readRefusal headerRefusal recordsFrom recordsOf
 worked = (refl, refl, refl, refl, refl)

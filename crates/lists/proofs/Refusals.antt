@@ -1,23 +1,23 @@
 -- What is known of a record and of a header in which no refusal is found.
-use mathlib.Core.Path.{_≡_}
-use mathlib.Core.Bool.{true, not, _||_}
-use mathlib.Core.List.{List}
-use Prim.Native.Nat.{ℕ, _*_, _≤_, _<_}
+use mathlib.Core.Path.{_≡_, refl}
+use mathlib.Core.Bool.{Bool, true, false, not, cond, _||_}
+use mathlib.Core.List.{List, []}
+use Prim.Native.Nat.{ℕ, zero, suc, _≤_, _<_}
 use native.Mathlib.Omega.{arith}
-use borrow.Author.Tests.{ltb-false, eqb-true, eqb-false, not-false}
+use borrow.Author.Tests.{lt-ltb, ltb-false, eqb-true, eqb-false, not-false}
 use lib.Dec.{ltb, eqb}
-use lib.ListN.{length}
-use Rattle.shapes.specs.Limits.{sizeRefusal, shapeRefusal, recordRefusal, offRange, offRadius, refusalsOf}
+use lib.ListN.{length, drop}
+use Rattle.shapes.specs.Limits.{first, sizeRefusal, shapeRefusal, recordRefusal, offRange, offRadius, refusalsOf}
 use Rattle.shapes.proofs.Limits.{clear, tried-clear, or-clear}
 use Rattle.shapes.specs.declared.Shape.{Shape}
 use Rattle.shapes.specs.declared.Shape.the-variants.{Line as line, Disc as disc, Ring as ring}
 use Rattle.shapes.specs.declared.Basis.{Basis}
 use Rattle.shapes.specs.declared.Record.{Record}
 use Rattle.shapes.specs.declared.Record.the-variants.{End as end, Setting as setting, Shape as shape}
-use Rattle.lists.specs.Format.{version, wordAt, headerAt, sizeAt, recordAt}
+use Rattle.lists.specs.Format.{listMost, headerSize, version, wordAt, headerAt, basisOf, sizeAt, recordAt}
 use Rattle.lists.specs.inner.Record.{Whole, OneByte, OneByteRecord}
 use Rattle.lists.specs.Read.{readRefusal}
-use Rattle.lists.specs.List.{hasMark, headerRefusal}
+use Rattle.lists.specs.List.{refused, hasMark, headerRefusal, recordsFrom, recordsOf}
 
 -- ---- one record
 
@@ -61,30 +61,61 @@ one-byte b end e = tt
 one-byte b (setting g) e = tt
 one-byte b (shape s) e = one-byte-shape s e
 
--- ---- the header of a list, for a page of n bytes
+-- ---- the header of a list
 
-pub record Headed (s : List ℕ) (n : ℕ) : Type 0 where
+pub record Headed (tests : List (Bool × ℕ)) (s : List ℕ) : Type 0 where
   pub most : length s ≤ 65536
   pub least : 10 ≤ length s
   pub marked : hasMark s ≡ true
   pub versioned : wordAt s 3 ≡ version
   pub size : sizeRefusal (headerAt s .w) (headerAt s .h) ≡ 0
-  pub fits : headerAt s .w * headerAt s .h ≤ n
+  pub passed : first tests ≡ 0
 
-pub headed : (s : List ℕ) (n : ℕ) → headerRefusal s n ≡ 0 → Headed s n
+pub headed : (tests : List (Bool × ℕ)) (s : List ℕ) → headerRefusal tests s ≡ 0 → Headed tests s
 unfolding headerRefusal
-headed s n e =
+headed tests s e =
     let most = clear (ltb 65536 (length s)) 11 _ e in
     let least = clear (ltb (length s) 10) 4 _ (most .1) in
     let marked = clear (not (hasMark s)) 0 _ (least .1) in
     let versioned = clear (not (eqb (wordAt s 3) version)) 1 _ (marked .1) in
     let size = tried-clear (sizeRefusal (headerAt s .w) (headerAt s .h)) _ (versioned .1) in
-    let fits = clear (ltb n (headerAt s .w * headerAt s .h)) 20 0 (size .1) in
     record {
       most = ltb-false _ _ (most .0);
       least = ltb-false _ _ (least .0);
       marked = not-false _ (marked .0);
       versioned = eqb-true _ _ (not-false _ (versioned .0));
       size = size .0;
-      fits = ltb-false _ _ (fits .0);
+      passed = size .1;
     }
+
+-- the tests are tried behind the rest
+pub header-then : (tests : List (Bool × ℕ)) (s : List ℕ) → headerRefusal tests s ≡ cond (ltb 0 (headerRefusal [] s)) (headerRefusal [] s) (first tests)
+unfolding headerRefusal
+header-then tests s =
+    go (ltb listMost (length s)) (ltb (length s) headerSize) (not (hasMark s)) (not (eqb (wordAt s 3) version)) (sizeRefusal (headerAt s .w) (headerAt s .h))
+  where
+    cases : ℕ → Bool → Bool → Bool → Bool → ℕ → ℕ
+    cases last a b c d f = cond a 12 (cond b 5 (cond c 1 (cond d 2 (cond (ltb 0 f) f last))))
+
+    go : (a b c d : Bool) (f : ℕ) → cases (first tests) a b c d f ≡ cond (ltb 0 (cases 0 a b c d f)) (cases 0 a b c d f) (first tests)
+    go true b c d f = refl
+    go false true c d f = refl
+    go false false true d f = refl
+    go false false false true f = refl
+    go false false false false zero = refl
+    go false false false false (suc f) = rw (lt-ltb 0 (suc f) (omega arith), lt-ltb 0 (suc f) (omega arith))
+
+-- the two places where a list's header is refused, and a header that is not
+module _ (tests : List (Bool × ℕ)) (s : List ℕ) {f : ℕ} where
+  pub refused-first : f ≡ headerRefusal [] s → 0 < f → recordsOf tests s ≡ refused f 0
+  unfolding recordsOf
+  refused-first e k = simp (header-then tests s, ← e, lt-ltb 0 f k)
+
+  pub refused-next : headerRefusal [] s ≡ 0 → f ≡ first tests → 0 < f → recordsOf tests s ≡ refused f 0
+  unfolding recordsOf
+  refused-next none e k = simp (header-then tests s, none, ← e, lt-ltb 0 f k)
+
+pub not-refused : (tests : List (Bool × ℕ)) (s : List ℕ) → headerRefusal [] s ≡ 0 → first tests ≡ 0
+    → recordsOf tests s ≡ recordsFrom (suc (length s)) (basisOf (headerAt s)) (drop headerSize s) headerSize
+unfolding recordsOf
+not-refused tests s none passed = simp (header-then tests s, none, passed)

@@ -77,9 +77,9 @@ module _ (s : List ℕ) (b : AllBytes s) where
   pub record-again : Whole s → recordBytes (recordAt s) ≡ take (sizeAt s) s
   record-again p = kind-again (kindAt s) (p .known) refl ∙ sym (take-firsts (sizeAt s) s (p .fits))
 
-  pub header-again : (n : ℕ) → Headed s n → headerBytes (headerAt s) ≡ take 10 s
+  pub header-again : {tests : List (Bool × ℕ)} → Headed tests s → headerBytes (headerAt s) ≡ take 10 s
   unfolding firsts headerBytes
-  header-again n p =
+  header-again p =
       let first = and-both (markAt s 0 && markAt s 1) (markAt s 2) (p .marked) in
       let second = and-both (markAt s 0) (markAt s 1) (first .0) in
       front (eqb-true _ _ (second .0)) (front (eqb-true _ _ (second .1)) (front (eqb-true _ _ (first .1))
@@ -141,20 +141,20 @@ records-again {w} {h} (more {s} {rs} none k p) b m place low inside most =
     ∙ ap (λ (bs : List ℕ). putAt place bs m) (take-append-drop (sizeAt s) s)
 
 -- ---- a whole list
-module _ (l : List ℕ) (n : ℕ) (rs : List Record) (b : AllBytes l) (e : recordsOf l n ≡ accepted rs) (m : List ℕ) (place w h : ℕ) where
+module _ (tests : List (Bool × ℕ)) (l : List ℕ) (rs : List Record) (b : AllBytes l) (e : recordsOf tests l ≡ accepted rs) (m : List ℕ) (place w h : ℕ) where
   -- written into a list that is as long at least, from any place and with any W and H held
   pub written-again : length l ≤ length m → listWritten m place w h (headerAt l) rs ≡ l ++ drop (length l) m
   unfolding listWritten
   written-again fits =
-      let p = headed l n (list-headed l n rs e) in
+      let p = headed tests l (list-headed tests l rs e) in
       let done = header-done m place w h (headerAt l) (header-none (length m) (headerAt l) (p .size) (omega (arith, p .least))) in
       let ten : 10 ≡ 0 + length (take 10 l) = omega (arith, length-take-le 10 l (p .least)) in
       let rest = length-drop 10 l in
       let same = put-length m 0 (take 10 l) (omega (arith, p .least)) in
       ap₂ (λ (x : List ℕ) (r : Written). recordsList x (r .place) (r .w) (r .h) rs)
-      (sym (done .1) ∙ ap (λ (bs : List ℕ). putAt 0 bs m) (header-again l b n p))
+      (sym (done .1) ∙ ap (λ (bs : List ℕ). putAt 0 bs m) (header-again l b p))
       (sym (done .0))
-      ∙ records-again (list-holds l n rs e) (drop-bytes 10 l b) (putAt 0 (take 10 l) m) 10 (omega arith) (omega (arith, p .least)) (omega (arith, p .least, p .most))
+      ∙ records-again (list-holds tests l rs e) (drop-bytes 10 l b) (putAt 0 (take 10 l) m) 10 (omega arith) (omega (arith, p .least)) (omega (arith, p .least, p .most))
       ∙ ap (λ (k : ℕ). putAt k (drop 10 l) (putAt 0 (take 10 l) m)) ten
       ∙ put-put m 0 (take 10 l) (drop 10 l) (omega (arith, p .least))
       ∙ ap (λ (bs : List ℕ). putAt 0 bs m) (take-append-drop 10 l)

@@ -24,17 +24,20 @@ markAt s i = eqb (getD s i 0) (getD mark i 0)
 abbrev pub hasMark : List ℕ → Bool
 hasMark s = markAt s 0 && markAt s 1 && markAt s 2
 
--- 12; 5 under 10 bytes; 1; 2; 3; 21 for a page of n bytes
-unfoldable pub headerRefusal : List ℕ → ℕ → ℕ
-headerRefusal s n =
+-- 12; 5 under 10 bytes; 1; 2; 3; then the tests of what the list is for
+unfoldable pub headerRefusal : List (Bool × ℕ) → List ℕ → ℕ
+headerRefusal tests s =
     first
     ((ltb listMost (length s), 12)
     ∷ (ltb (length s) headerSize, 5)
     ∷ (not (hasMark s), 1)
     ∷ (not (eqb (wordAt s 3) version), 2)
     ∷ tried (sizeRefusal (headerAt s .w) (headerAt s .h))
-    ∷ (ltb n (headerAt s .w * headerAt s .h), 21)
-    ∷ [])
+    ∷ tests)
+
+-- the tests of a page of n bytes. 21: it has fewer than W·H
+abbrev pub pageTests : Header → ℕ → List (Bool × ℕ)
+pageTests d n = (ltb n (d .w * d .h), 21) ∷ []
 
 -- r in front of the records that follow it
 abbrev pub onto : Record → Records → Records
@@ -56,15 +59,19 @@ recordsFrom (suc fuel) b s place =
     (behindEnd (drop (sizeAt s) s) (place + sizeAt s))
     (recordsFrom fuel b (drop (sizeAt s) s) (place + sizeAt s))))
 
--- a whole list s, for a page of n bytes
-unfoldable pub recordsOf : List ℕ → ℕ → Records
-recordsOf s n =
-    cond (ltb 0 (headerRefusal s n)) (refused (headerRefusal s n) 0)
+-- a whole list s
+unfoldable pub recordsOf : List (Bool × ℕ) → List ℕ → Records
+recordsOf tests s =
+    cond (ltb 0 (headerRefusal tests s)) (refused (headerRefusal tests s) 0)
     (recordsFrom (suc (length s)) (basisOf (headerAt s)) (drop headerSize s) headerSize)
 
 abbrev pub checkedAs : Header → Records → Checked
 checkedAs d (accepted rs) = Accepted d
 checkedAs d (refused f place) = Refused f place
 
+-- a list s for a page of n bytes
+abbrev pub pageRecords : List ℕ → ℕ → Records
+pageRecords s n = recordsOf (pageTests (headerAt s) n) s
+
 abbrev pub checkedOf : List ℕ → ℕ → Checked
-checkedOf s n = checkedAs (headerAt s) (recordsOf s n)
+checkedOf s n = checkedAs (headerAt s) (pageRecords s n)

@@ -1,12 +1,11 @@
 // Checks a whole list.
 ghost use mathlib.Core.Path.{_≡_};
-ghost use mathlib.Core.List.{[], _∷_};
-ghost use Prim.Native.Nat.{suc, _*_, _≤_};
-ghost use lib.Dec.{ltb};
+ghost use mathlib.Core.List.{[]};
+ghost use Prim.Native.Nat.{suc, _≤_};
 ghost use lib.ListN.{length, drop};
-ghost use Rattle.shapes.specs.Limits.{first, tried, sizeRefusal};
+ghost use Rattle.shapes.specs.Limits.{first};
 ghost use Rattle.lists.specs.Format.{headerSize, basisOf};
-ghost use Rattle.lists.specs.List.{hasMark, headerRefusal, recordsFrom, checkedAs, checkedOf};
+ghost use Rattle.lists.specs.List.{hasMark, headerRefusal, pageTests, recordsFrom, checkedAs, checkedOf};
 use super::format::HEADER_SIZE;
 use super::format::Header;
 use super::format::LIST_MOST;
@@ -37,23 +36,19 @@ fn has_mark(list: &[u8]) -> bool
     list[2] == b'K'
 }
 
-// The first refusal of W and H for a page of so many bytes, or 0.
-fn room_refusal(header: Header, page: usize) -> u8
-    ensures { λ r. ⌜ r ≡ first (tried (sizeRefusal (header .w) (header .h)) ∷ (ltb page (header .w * header .h), 21) ∷ []) ⌝ }
+// The first refusal of a page of so many bytes, 21, or 0.
+fn page_refusal(header: Header, page: usize) -> u8
+    ensures { λ r. ⌜ r ≡ first (pageTests header page) ⌝ }
 {
-    let size = shapes::size_refusal(header.w, header.h);
-    if 0 < size {
-        return size;
-    }
     if (page as u64) < numbers::product(header.w as u64, header.h as u64) {
         return 21;
     }
     0
 }
 
-// The first refusal of the header for a page of so many bytes, or 0.
-fn header_refusal(list: &[u8], page: usize) -> u8
-    ensures { λ r. ⌜ r ≡ headerRefusal (now (list .entry)) page ⌝ }
+// The first refusal of the header, or 0.
+fn header_refusal(list: &[u8]) -> u8
+    ensures { λ r. ⌜ r ≡ headerRefusal [] (now (list .entry)) ⌝ }
 {
     if LIST_MOST < list.len() {
         return 12;
@@ -67,7 +62,8 @@ fn header_refusal(list: &[u8], page: usize) -> u8
     if word_at(list, 3) != VERSION {
         return 2;
     }
-    room_refusal(read_header(list), page)
+    let header = read_header(list);
+    shapes::size_refusal(header.w, header.h)
 }
 
 // Tries the records one after the other.
@@ -97,9 +93,17 @@ fn check_records(list: &[u8], header: Header) -> Checked
 pub fn check_list(list: &[u8], page: usize) -> Checked
     ensures { λ r. ⌜ r ≡ checkedOf (now (list .entry)) page ⌝ }
 {
-    let refusal = header_refusal(list, page);
+    let refusal = header_refusal(list);
     if 0 < refusal {
         return Checked::Refused { refusal, place: 0 };
     }
-    check_records(list, read_header(list))
+    let header = read_header(list);
+    let room = page_refusal(header, page);
+    if 0 < room {
+        return Checked::Refused {
+            refusal: room,
+            place: 0,
+        };
+    }
+    check_records(list, header)
 }

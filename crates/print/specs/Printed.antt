@@ -3,7 +3,7 @@ use mathlib.Core.List.{List}
 use Prim.Native.Nat.{ℕ}
 use lib.ListN.{length}
 use Rattle.lists.specs.Format.{headerAt}
-use Rattle.lists.specs.List.{recordsOf}
+use Rattle.lists.specs.List.{pageRecords}
 use Rattle.drawing.specs.declared.Answer.{Answer}
 use Rattle.drawing.specs.declared.Answer.the-variants.{Drawn, Refused}
 use Rattle.drawing.specs.Claim.{listAnswer, listPage}
@@ -17,4 +17,4 @@ answerText (Refused f place) page = refusalText f place
 -- a list drawn on a page
 unfoldable pub listText : List ℕ → List ℕ → List ℕ
 listText list page =
-    answerText (listAnswer (headerAt list) (recordsOf list (length page))) (listPage (headerAt list) (recordsOf list (length page)) page)
+    answerText (listAnswer (headerAt list) (pageRecords list (length page))) (listPage (headerAt list) (pageRecords list (length page)) page)

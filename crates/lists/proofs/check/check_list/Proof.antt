@@ -1,10 +1,14 @@
-use mathlib.Core.Path.{_∙_, sym}
+-- The header's refusal, then the page's, then the records' check: the order in which `recordsOf` tries them.
+use mathlib.Core.Path.{_≡_, _∙_, sym, ap}
+use mathlib.Core.List.{List, []}
+use Prim.Native.Nat.{ℕ}
 use native.Mathlib.Omega.{arith}
 use borrow.Author.Needs.{needs}
-use borrow.Author.Tests.{lt-ltb, le-ltb}
 use denote.Ref.{now}
-use Rattle.lists.specs.List.{recordsOf}
-use Rattle.lists.proofs.Refusals.{headed}
+use Rattle.shapes.specs.Limits.{first}
+use Rattle.lists.specs.Format.{headerAt}
+use Rattle.lists.specs.List.{headerRefusal, pageTests, checkedAs}
+use Rattle.lists.proofs.Refusals.{headed, refused-first, refused-next, not-refused}
 use Rattle.lists.proofs.check.check_list.Statement.{statement}
 use Rattle.lists.proofs.check.check_list.Tie as tie
 
@@ -12,27 +16,44 @@ header-refusal-requires : tie.Need-header-refusal-requires
 header-refusal-requires c κs = search needs
 
 returns : tie.Need-returns
-unfolding recordsOf
-returns c = simp (← c .before .header-refusal .ensures, lt-ltb _ _ (c .if1 .taken))
+returns c = ap (checkedAs _) (sym (refused-first _ _ (c .before .header-refusal .ensures) (c .if1 .taken)))
+
+module _ (c : tie.Else1) where
+  abbrev list : List ℕ
+  list = now (c .before .before .before .args .list)
+
+  none : headerRefusal [] list ≡ 0
+  none = sym (c .before .header-refusal .ensures) ∙ omega arith
 
 read-header-requires : tie.Need-read-header-requires
-read-header-requires c κs =
-    let a = c .before .before .before .args in
-    headed (now (a .list)) (a .page) (sym (c .before .header-refusal .ensures) ∙ omega arith) .least
+read-header-requires c κs = headed [] (list c) (none c) .least
 
-check-records-requires : tie.Need-check-records-requires
-check-records-requires c κs =
-    let header-refusal = c .before .before .header-refusal in
-    let a = c .before .before .before .before .args in
-    headed (now (a .list)) (a .page) (sym (header-refusal .ensures) ∙ omega arith) .least
+page-refusal-requires : tie.Need-page-refusal-requires
+page-refusal-requires c κs = search needs
 
 returns-2 : tie.Need-returns-2
-unfolding recordsOf
 returns-2 c =
-    let header-refusal = c .before .before .before .header-refusal in
-    rw (← header-refusal .ensures, le-ltb _ _ (c .before .before .if1 .left)) (rw (c .before .read-header .ensures) at (c .check-records .ensures))
+    let s = c .before .before .before in
+    ap (checkedAs _) (sym (refused-next _ _ (none s) (rw (c .before .before .read-header .ensures) at (c .before .page-refusal .ensures)) (c .if2 .taken)))
+
+check-records-requires : tie.Need-check-records-requires
+check-records-requires c κs = let s = c .before .before .before in headed [] (list s) (none s) .least
+
+returns-3 : tie.Need-returns-3
+returns-3 c =
+    let read = c .before .before .before in
+    let s = read .before in
+    let passed : first (pageTests (headerAt (list s)) _) ≡ 0 = sym (rw (read .read-header .ensures) at (c .before .before .page-refusal .ensures)) ∙ omega arith in
+    rw (read .read-header .ensures) at (c .check-records .ensures) ∙ ap (checkedAs _) (sym (not-refused _ (list s) (none s) passed))
 
 pub check-list-spec : {M : Type 1} → statement M
 check-list-spec =
     tie.close
-    (tie.spec header-refusal-requires returns read-header-requires check-records-requires returns-2)
+    (tie.spec
+    header-refusal-requires
+    returns
+    read-header-requires
+    page-refusal-requires
+    returns-2
+    check-records-requires
+    returns-3)

@@ -1,11 +1,18 @@
+-- The tests are made in the order in which `headerRefusal` has them; of two, three and four, the number says how many were passed.
 use mathlib.Core.Path.{sym, _∙_}
+use mathlib.Core.List.{List}
+use Prim.Native.Nat.{ℕ}
 use borrow.Author.Needs.{needs}
 use borrow.Author.Tests.{lt-ltb, le-ltb, eq-eqb, ne-eqb}
 use denote.Ref.{now}
+use Rattle.shapes.proofs.Limits.{tried-last}
 use Rattle.lists.specs.Format.{wordAt}
 use Rattle.lists.specs.List.{headerRefusal}
 use Rattle.lists.proofs.check.header_refusal.Statement.{statement}
 use Rattle.lists.proofs.check.header_refusal.Tie as tie
+
+abbrev list : tie.Else2 → List ℕ
+list two = now (two .before .before .before .args .list)
 
 returns : tie.Need-returns
 unfolding headerRefusal
@@ -21,8 +28,8 @@ has-mark-requires c κs = search needs
 returns-3 : tie.Need-returns-3
 unfolding headerRefusal
 returns-3 c =
-    let if1 = c .before .before .before .if1 in
-    simp (le-ltb _ _ (if1 .left), le-ltb _ _ (c .before .before .if2 .left), ← c .before .has-mark .ensures, c .if3 .taken)
+    let two = c .before .before in
+    simp (le-ltb _ _ (two .before .if1 .left), le-ltb _ _ (two .if2 .left), ← c .before .has-mark .ensures, c .if3 .taken)
 
 word-at-requires : tie.Need-word-at-requires
 word-at-requires c κs = search needs
@@ -30,28 +37,26 @@ word-at-requires c κs = search needs
 returns-4 : tie.Need-returns-4
 unfolding headerRefusal
 returns-4 c =
-    let if1 = c .before .before .before .before .before .if1 in
-    let if2 = c .before .before .before .before .if2 in
-    let has-mark = c .before .before .before .has-mark in
-    let args = c .before .before .before .before .before .before .before .args in
-    simp (le-ltb _ _ (if1 .left), le-ltb _ _ (if2 .left), ← has-mark .ensures, c .before .before .if3 .left, ne-eqb (wordAt (now (args .list)) 3) 1 (λ e. c .if4 .taken (c .before .word-at .ensures ∙ e)))
+    let three = c .before .before in
+    let two = three .before .before in
+    let other = ne-eqb (wordAt (list two) 3) 1 (λ e. c .if4 .taken (c .before .word-at .ensures ∙ e)) in
+    simp (le-ltb _ _ (two .before .if1 .left), le-ltb _ _ (two .if2 .left), ← three .before .has-mark .ensures, three .if3 .left, other)
 
 read-header-requires : tie.Need-read-header-requires
 read-header-requires c κs = search needs
 
-room-refusal-requires : tie.Need-room-refusal-requires
-room-refusal-requires c κs = search needs
+size-refusal-requires : tie.Need-size-refusal-requires
+size-refusal-requires c κs = search needs
 
 returns-5 : tie.Need-returns-5
 unfolding headerRefusal
 returns-5 c =
-    let if1 = c .before .before .before .before .before .before .before .if1 in
-    let if2 = c .before .before .before .before .before .before .if2 in
-    let has-mark = c .before .before .before .before .before .has-mark in
-    let if3 = c .before .before .before .before .if3 in
-    let word-at = c .before .before .before .word-at in
-    let args = c .before .before .before .before .before .before .before .before .before .args in
-    simp (le-ltb _ _ (if1 .left), le-ltb _ _ (if2 .left), ← has-mark .ensures, if3 .left, eq-eqb (wordAt (now (args .list)) 3) 1 (sym (word-at .ensures) ∙ c .before .before .if4 .left)) (rw (c .before .read-header .ensures) at (c .room-refusal .ensures))
+    let four = c .before .before in
+    let three = four .before .before in
+    let two = three .before .before in
+    let one = eq-eqb (wordAt (list two) 3) 1 (sym (four .before .word-at .ensures) ∙ four .if4 .left) in
+    simp (le-ltb _ _ (two .before .if1 .left), le-ltb _ _ (two .if2 .left), ← three .before .has-mark .ensures, three .if3 .left, one, tried-last)
+    (rw (c .before .read-header .ensures) at (c .size-refusal .ensures))
 
 pub header-refusal-spec : {M : Type 1} → statement M
 header-refusal-spec =
@@ -64,5 +69,5 @@ header-refusal-spec =
     word-at-requires
     returns-4
     read-header-requires
-    room-refusal-requires
+    size-refusal-requires
     returns-5)
