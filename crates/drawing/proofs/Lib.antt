@@ -2,3 +2,4 @@
 pub mod Shapes
 pub mod Records
 pub mod Bytes
+pub mod Claim

@@ -5,6 +5,7 @@ use mathlib.Core.List.{List, [], _∷_, _++_}
 use Prim.Native.Nat.{ℕ, _+_, _%_, _/_}
 use native.Mathlib.Omega.{arith}
 use lib.ListN.{length, getD}
+use Rattle.numbers.specs.Sum.{total}
 use Rattle.numbers.proofs.Sum.{sum-ext, sum-add, sum-zero}
 use Rattle.page.specs.Blend.{blend}
 use Rattle.page.specs.Page.{over}
@@ -13,7 +14,7 @@ use Rattle.bound.specs.Exact.{Touch, after, byteAfter}
 use Rattle.draw.specs.Touch.{touched, shapeByte, pageAfter, touchCount}
 use Rattle.lists.specs.Drawing.{Drawing}
 use Rattle.drawing.specs.Touches.{touchOf, touchesAt}
-use Rattle.drawing.specs.Page.{pixelsCount, shapesCount}
+use Rattle.drawing.specs.Counts.{pixelsCount, shapesCount}
 use Rattle.drawing.specs.inner.Walk.{shapesPage, touchedPage}
 
 -- ---- some shapes, then others
@@ -22,11 +23,6 @@ pub page-then : (w : ℕ) (ds es : List Drawing) (l : List ℕ) → shapesPage w
 unfolding shapesPage
 page-then w [] es l = refl
 page-then w (d ∷ ds) es l = page-then w ds es (pageAfter w (d .settings .clip) (d .settings .level) (d .shape) l)
-
-pub count-then : (w h : ℕ) (ds es : List Drawing) → shapesCount w h (ds ++ es) ≡ shapesCount w h ds + shapesCount w h es
-unfolding shapesCount
-count-then w h [] es = omega arith
-count-then w h (d ∷ ds) es = omega (arith, count-then w h ds es)
 
 -- ---- the page
 
@@ -39,7 +35,8 @@ byte-first d ds x y u = go (touched (d .settings .clip) (d .shape) x y)
     t : Touch
     t = touchOf d x y
 
-    go : (k : Bool) → byteAfter (cond k (blend u (t .level) (t .drawn .num) (t .drawn .den)) u) (touchesAt ds x y) ≡ byteAfter u (cond k (t ∷ touchesAt ds x y) (touchesAt ds x y))
+    go : (k : Bool) → byteAfter (cond k (blend u (t .level) (t .drawn .num) (t .drawn .den)) u) (touchesAt ds x y)
+        ≡ byteAfter u (cond k (t ∷ touchesAt ds x y) (touchesAt ds x y))
     go true = refl
     go false = refl
 
@@ -76,7 +73,7 @@ unfolding touchesAt
 no-count x y = refl
 
 pub counts-same : (w h : ℕ) (ds : List Drawing) → shapesCount w h ds ≡ pixelsCount w h ds
-unfolding shapesCount pixelsCount touchCount
+unfolding total pixelsCount touchCount
 counts-same w h [] = sym (sum-zero h _ (λ y _. sum-zero w _ (λ x _. no-count x y)))
 counts-same w h (d ∷ ds) =
     ap (λ (n : ℕ). touchCount w h (d .settings .clip) (d .shape) + n) (counts-same w h ds)

@@ -9,16 +9,13 @@ ghost use Prim.Native.Nat.{_*_, _≤_};
 ghost use lib.ListN.{length};
 ghost use Rattle.shapes.specs.Limits.{recordRefusal};
 ghost use Rattle.page.specs.inner.Paint.{Lawful};
-ghost use Rattle.lists.specs.Format.{headerAt};
-ghost use Rattle.lists.specs.List.{pageRecords};
 ghost use Rattle.lists.specs.inner.Walk.{listDrawings};
 ghost use Rattle.draw.specs.inner.View.{viewOf};
 ghost use Rattle.lists.specs.Drawing.{drawingOf};
-ghost use Rattle.drawing.specs.Page.{shapesCount};
-ghost use Rattle.drawing.specs.inner.Walk.{settingsOf, shapesPage, Drawable, AllLawful, touchedPage};
-ghost use Rattle.drawing.specs.Claim.{listAnswer, answerByPixels, listPage, Bounded};
+ghost use Rattle.drawing.specs.inner.Walk.{settingsOf, ShapesDrawn, ListPainted, Drawable, AllLawful};
+ghost use Rattle.drawing.specs.Claim.{Claim};
 
-// What drawing a list answers: W, H and how many pixels were touched, or the number of the refusal and its place.
+// What drawing a list answers: W, H and how many pixels were touched, or the refusal and its place.
 pub enum Answer {
     Drawn { w: u16, h: u16, touched: u64 },
     Refused { refusal: u8, place: usize },
@@ -27,7 +24,7 @@ pub enum Answer {
 // Draws a record, if it is a shape; hands back how many pixels it touched.
 fn draw_record(page: &mut [u8], basis: Basis, clip: Clip, level: u8, rec: Record) -> u64
     requires { ⌜ Lawful (viewOf (basis .w) (basis .h) clip) (length (now page)) × (recordRefusal basis rec ≡ 0) ⌝ }
-    ensures { λ t. ⌜ (now (page .exit) ≡ shapesPage (basis .w) (drawingOf (settingsOf clip level) rec) (now (page .entry))) × (t ≡ shapesCount (basis .w) (basis .h) (drawingOf (settingsOf clip level) rec)) × (t ≤ 1048576) × (level ≤ 255) ⌝ }
+    ensures { λ t. ⌜ ShapesDrawn basis (drawingOf (settingsOf clip level) rec) (now (page .entry)) (now (page .exit)) t × (t ≤ 1048576) × (level ≤ 255) ⌝ }
 {
     match rec {
         Record::Setting(_) => 0,
@@ -41,7 +38,8 @@ fn draw_record(page: &mut [u8], basis: Basis, clip: Clip, level: u8, rec: Record
 // Draws the records of a list one after the other; hands back how many pixels they touched.
 fn draw_records(page: &mut [u8], list: &[u8], basis: Basis) -> u64
     requires { ⌜ Drawable (now list) basis (length (now page)) ⌝ }
-    ensures { λ t. ⌜ (now (page .exit) ≡ shapesPage (basis .w) (listDrawings basis (now (list .entry))) (now (page .entry))) × (t ≡ shapesCount (basis .w) (basis .h) (listDrawings basis (now (list .entry)))) × AllLawful (listDrawings basis (now (list .entry))) ⌝ }
+    ensures { λ t. ⌜ ShapesDrawn basis (listDrawings basis (now (list .entry))) (now (page .entry)) (now (page .exit)) t ⌝ }
+    ensures { λ t. ⌜ AllLawful (listDrawings basis (now (list .entry))) ⌝ }
 {
     let mut settings = lists::settings::first_settings(basis);
     let mut touched: u64 = 0;
@@ -62,7 +60,7 @@ fn draw_records(page: &mut [u8], list: &[u8], basis: Basis) -> u64
 // Fills a page with the background and draws a list on it; hands back how many pixels were touched.
 fn paint(page: &mut [u8], list: &[u8], basis: Basis, background: u8) -> u64
     requires { ⌜ Drawable (now list) basis (length (now page)) ⌝ }
-    ensures { λ t. ⌜ (now (page .exit) ≡ touchedPage (basis .w) background (listDrawings basis (now (list .entry))) (now (page .entry))) × (t ≡ shapesCount (basis .w) (basis .h) (listDrawings basis (now (list .entry)))) × AllLawful (listDrawings basis (now (list .entry))) × (background ≤ 255) ⌝ }
+    ensures { λ t. ⌜ ListPainted basis background (listDrawings basis (now (list .entry))) (now (page .entry)) (now (page .exit)) t ⌝ }
 {
     page::fill(page, background);
     draw_records(page, list, basis)
@@ -70,10 +68,7 @@ fn paint(page: &mut [u8], list: &[u8], basis: Basis, background: u8) -> u64
 
 // Draws a list on a page, or refuses it and leaves the page as it was. The list is checked whole before a byte of the page is written.
 pub fn draw_list(page: &mut [u8], list: &[u8]) -> Answer
-    ensures { λ r. ⌜ r ≡ listAnswer (headerAt (now (list .entry))) (pageRecords (now (list .entry)) (length (now (page .entry)))) ⌝ }
-    ensures { λ r. ⌜ now (page .exit) ≡ listPage (headerAt (now (list .entry))) (pageRecords (now (list .entry)) (length (now (page .entry)))) (now (page .entry)) ⌝ }
-    ensures { λ r. ⌜ Bounded (headerAt (now (list .entry))) (pageRecords (now (list .entry)) (length (now (page .entry)))) (now (page .exit)) ⌝ }
-    ensures { λ r. ⌜ r ≡ answerByPixels (headerAt (now (list .entry))) (pageRecords (now (list .entry)) (length (now (page .entry)))) ⌝ }
+    ensures { λ r. ⌜ Claim (now (list .entry)) (now (page .entry)) r (now (page .exit)) ⌝ }
 {
     let checked = lists::check::check_list(list, page.len());
     match checked {

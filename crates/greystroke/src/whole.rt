@@ -1,10 +1,7 @@
 // A whole list on a lent page.
 use drawing::Answer;
 ghost use mathlib.Core.Path.{_≡_};
-ghost use lib.ListN.{length};
-ghost use Rattle.lists.specs.Format.{headerAt};
-ghost use Rattle.lists.specs.List.{pageRecords};
-ghost use Rattle.drawing.specs.Claim.{listAnswer, answerByPixels, listPage, Bounded};
+ghost use Rattle.drawing.specs.Claim.{Claim, listAnswer};
 ghost use Rattle.greystroke.specs.Whole.{listAnswered};
 
 // W, H and how many pixels were touched where refusal is 0; else the place of the refusal.
@@ -42,10 +39,8 @@ fn list_answer(answer: Answer) -> ListAnswer
 // Draws a list.
 #[no_mangle]
 pub extern "C" fn greystroke_draw_list(page: &mut [u8], list: &[u8]) -> ListAnswer
-    ensures { λ r. ⌜ r ≡ listAnswered (listAnswer (headerAt (now (list .entry))) (pageRecords (now (list .entry)) (length (now (page .entry))))) ⌝ }
-    ensures { λ r. ⌜ now (page .exit) ≡ listPage (headerAt (now (list .entry))) (pageRecords (now (list .entry)) (length (now (page .entry)))) (now (page .entry)) ⌝ }
-    ensures { λ r. ⌜ Bounded (headerAt (now (list .entry))) (pageRecords (now (list .entry)) (length (now (page .entry)))) (now (page .exit)) ⌝ }
-    ensures { λ r. ⌜ r ≡ listAnswered (answerByPixels (headerAt (now (list .entry))) (pageRecords (now (list .entry)) (length (now (page .entry))))) ⌝ }
+    ensures { λ r. ⌜ r ≡ listAnswered (listAnswer (now (list .entry)) (now (page .entry))) ⌝ }
+    ensures { λ r. ⌜ Claim (now (list .entry)) (now (page .entry)) (listAnswer (now (list .entry)) (now (page .entry))) (now (page .exit)) ⌝ }
 {
     list_answer(drawing::draw_list(page, list))
 }

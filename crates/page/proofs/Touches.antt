@@ -55,4 +55,3 @@ touches-stretch w h a b y n h₁ h₂ h₃ =
     other : {x : ℕ} (j : ℕ) → (j ≡ y → ⊥) → (j < y) ⊎ (y ≤ j) → Outside a y b (y + 1) x j
     other j ne (inl z) = above z
     other j ne (inr z) = below (omega arith)
-

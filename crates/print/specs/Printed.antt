@@ -1,9 +1,6 @@
 -- What is printed for a list.
 use mathlib.Core.List.{List}
 use Prim.Native.Nat.{ℕ}
-use lib.ListN.{length}
-use Rattle.lists.specs.Format.{headerAt}
-use Rattle.lists.specs.List.{pageRecords}
 use Rattle.drawing.specs.declared.Answer.{Answer}
 use Rattle.drawing.specs.declared.Answer.the-variants.{Drawn, Refused}
 use Rattle.drawing.specs.Claim.{listAnswer, listPage}
@@ -16,5 +13,4 @@ answerText (Refused f place) page = refusalText f place
 
 -- a list drawn on a page
 unfoldable pub listText : List ℕ → List ℕ → List ℕ
-listText list page =
-    answerText (listAnswer (headerAt list) (pageRecords list (length page))) (listPage (headerAt list) (pageRecords list (length page)) page)
+listText list page = answerText (listAnswer list page) (listPage list page)

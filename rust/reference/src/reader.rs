@@ -20,7 +20,7 @@ fn try_record(bytes: &[u8], width: u16, height: u16) -> Result<(Record, usize), 
     }
 }
 
-/// The record at the front of the bytes and its length, if it is whole and that is not refused.
+/// The record at the front of the bytes and its length, if it is whole and not refused.
 pub fn lawful_record(bytes: &[u8], width: u16, height: u16) -> Result<(Record, usize), Refusal> {
     let (record, length) = decode_record(bytes)?;
     match record.first_refusal(width, height) {

@@ -1,13 +1,24 @@
-use mathlib.Core.Path.{_≡_, refl}
+-- A shape is drawn with the settings in force; a setting and the end draw nothing.
+use mathlib.Core.Path.{_≡_, refl, subst}
 use native.Mathlib.Omega.{arith}
+use Rattle.numbers.specs.Sum.{total}
 use Rattle.shapes.specs.Limits.{shapeRefusal, recordRefusal}
+use Rattle.shapes.specs.declared.Record.{Record}
 use Rattle.lists.specs.Drawing.{drawingOf}
-use Rattle.drawing.specs.Page.{shapesCount}
 use Rattle.drawing.specs.inner.Walk.{shapesPage}
 use Rattle.drawing.proofs.Records.{shape-drawn}
 use borrow.Author.Needs.{needs}
 use Rattle.drawing.proofs.draw_record.Statement.{statement}
 use Rattle.drawing.proofs.draw_record.Tie as tie
+
+-- the state at entry, where the record is a shape
+abbrev start : tie.After-rec → tie.Start
+start c = c .before .before .before
+
+-- the shape has no refusal, since the record has none
+lawful : (c : tie.After-rec) → shapeRefusal (c .rec .given .0 .0) ≡ 0
+unfolding recordRefusal
+lawful c = subst (λ (r : Record). recordRefusal (start c .args .basis) r ≡ 0) (c .rec .given .1) (start c .pre .1)
 
 enum-told : tie.Need-enum-told
 enum-told c = search needs
@@ -19,29 +30,36 @@ view-of-requires : tie.Need-view-of-requires
 view-of-requires c κs = search needs
 
 draw-lawful-requires : tie.Need-draw-lawful-requires
-unfolding recordRefusal
 draw-lawful-requires c κs =
-    let pre = c .before .before .before .before .before .before .pre in
-    let e : shapeRefusal (c .before .before .before .rec .given .0 .0) ≡ 0 = rw (c .before .before .before .rec .given .1) at (pre .1) in
-    (rw (c .view-of .ensures) (pre .0), e)
+    let found = c .before .before .before in
+    (rw (c .view-of .ensures) (start found .pre .0), lawful found)
 
 enum-told-2 : tie.Need-enum-told-2
 enum-told-2 c = search needs
 
 returns : tie.Need-returns
-unfolding shapesPage shapesCount drawingOf
-returns c = let v = c .before .before .before .fits .level in rw (c .enum-told .given .1) (refl, refl, omega arith, omega arith)
+unfolding shapesPage total drawingOf
+returns c =
+    let v = c .before .before .before .fits .level in
+    rw (c .enum-told .given .1) (record { page = refl; count = refl }, omega arith, omega arith)
 
 same-length : tie.Need-same-length
 same-length c = search needs
 
 returns-2 : tie.Need-returns-2
-unfolding recordRefusal
-returns-2 c = rw (c .before .before .before .before .before .before .rec .given .1) (shape-drawn _ _ (c .before .before .before .before .before .before .before .before .before .fits .level .fits) (c .before .before .before .before .before .before .before .before .before .pre .0) (rw (c .before .before .before .before .before .before .rec .given .1) at (c .before .before .before .before .before .before .before .before .before .pre .1)) (rw (c .before .before .before .view-of .ensures) at (c .before .before .draw-lawful .ensures)))
+returns-2 c =
+    let done = c .before .before in
+    let found = done .before .before .before .before in
+    let s = start found in
+    let v = s .fits .level in
+    let d = shape-drawn _ _ (s .pre .0) (lawful found) (rw (done .before .view-of .ensures) at (done .draw-lawful .ensures)) in
+    rw (found .rec .given .1) (d .0, d .1, omega arith)
 
 returns-3 : tie.Need-returns-3
-unfolding shapesPage shapesCount drawingOf
-returns-3 c = let v = c .before .before .before .fits .level in rw (c .enum-told2 .given .1) (refl, refl, omega arith, omega arith)
+unfolding shapesPage total drawingOf
+returns-3 c =
+    let v = c .before .before .before .fits .level in
+    rw (c .enum-told2 .given .1) (record { page = refl; count = refl }, omega arith, omega arith)
 
 pub draw-record-spec : {M : Type 1} → statement M
 draw-record-spec =

@@ -1,31 +1,40 @@
+-- At each record what is left, drawn on the page as it is and added to the count, makes the whole: an end leaves nothing.
 use mathlib.Core.Path.{_≡_, refl, ap, _∙_}
 use Prim.Native.Nat.{_-_}
 use native.Mathlib.Omega.{arith}
 use borrow.Author.Needs.{needs}
 use denote.Ref.{now}
 use lib.ListN.{length}
-use Rattle.drawing.specs.Page.{shapesCount}
-use Rattle.drawing.specs.inner.Walk.{shapesPage}
-use Rattle.lists.specs.inner.Walk.{listDrawings}
 use Rattle.drawing.proofs.Shapes.{length-shapes}
 use Rattle.lists.proofs.Left.{left-inside, left-whole}
-use Rattle.drawing.proofs.Records.{Remaining, remaining-start, remaining-end, lawful-record, remaining-next}
+use Rattle.drawing.proofs.Records.{RemainingOf, remaining-start, remaining-end, lawful-record, remaining-next}
 use Rattle.drawing.proofs.draw_records.Statement.{statement}
 use Rattle.drawing.proofs.draw_records.Tie as tie
 
 abbrev Inv-loop : tie.InvT-loop
 Inv-loop page₀ list basis settings₀ touched₀ place₀ page settings touched place =
-    Remaining basis list (listDrawings basis list) (shapesPage (basis .w) (listDrawings basis list) page₀) (shapesCount (basis .w) (basis .h) (listDrawings basis list)) place settings page touched
-    × (length page ≡ length page₀)
+    RemainingOf basis list page₀ place settings page touched × (length page ≡ length page₀)
 
 abbrev μ-loop : tie.MeasureT-loop
 μ-loop page₀ list basis settings₀ touched₀ place₀ page settings touched place = length list - place
+
+-- the turn of the loop, from its calls
+abbrev decoded : tie.After-decode Inv-loop μ-loop → tie.At-loop Inv-loop μ-loop
+decoded c = c .before .before .before .before
+
+abbrev drawn : tie.After-draw-record Inv-loop μ-loop → tie.After-decode Inv-loop μ-loop
+drawn c = c .before .before .before
+
+abbrev sized : tie.After-kind-size Inv-loop μ-loop → tie.After-draw-record Inv-loop μ-loop
+sized c = c .before .before .before .before
 
 first-settings-requires : tie.Need-first-settings-requires Inv-loop μ-loop
 first-settings-requires c κs = search needs
 
 loop-holds : tie.Need-loop-holds Inv-loop μ-loop
-loop-holds c = (rw (c .first-settings .ensures) (remaining-start (c .before .before .before .args .basis) (now (c .before .before .before .args .list)) (now (c .before .before .before .args .page)) (c .before .before .before .pre)), refl)
+loop-holds c =
+    let s = c .before .before .before in
+    (rw (c .first-settings .ensures) (remaining-start (s .args .basis) (now (s .args .list)) (now (s .args .page)) (s .pre)), refl)
 
 shared-slice-read-kind : tie.Need-shared-slice-read-kind Inv-loop μ-loop
 shared-slice-read-kind c = left-inside (c .before .loop .inv .0 .left) .0
@@ -34,7 +43,9 @@ same-length : tie.Need-same-length Inv-loop μ-loop
 same-length c = search needs
 
 returns : tie.Need-returns Inv-loop μ-loop
-returns c = remaining-end (c .before .before .loop .inv .0) (c .if1 .taken)
+returns c =
+    let e = remaining-end (c .before .before .loop .inv .0) (c .if1 .taken) in
+    (record { page = e .0; count = e .1 }, e .2)
 
 sub-decode : tie.Need-sub-decode Inv-loop μ-loop
 sub-decode c = let i = left-inside (c .before .before .loop .inv .0 .left) in omega arith
@@ -49,14 +60,16 @@ decode-requires : tie.Need-decode-requires Inv-loop μ-loop
 decode-requires c κs = left-whole (c .before .before .before .loop .inv .0 .left)
 
 draw-record-requires : tie.Need-draw-record-requires Inv-loop μ-loop
-draw-record-requires c κs = lawful-record (c .before .before .before .before .before .before .loop .inv .0) (c .before .before .decode .ensures)
+draw-record-requires c κs = let d = c .before .before in lawful-record (decoded d .loop .inv .0) (d .decode .ensures)
 
 add-touched : tie.Need-add-touched Inv-loop μ-loop
 add-touched c =
-    let i = left-inside (c .before .before .before .before .before .before .before .before .before .loop .inv .0 .left) in
-    let few = c .before .before .before .before .before .before .before .before .before .loop .inv .0 .few in
-    let most = c .before .before .before .before .before .before .before .before .before .loop .inv .0 .left .most in
-    let k = c .before .before .draw-record .ensures .2 in
+    let r = c .before .before in
+    let p = decoded (drawn r) .loop .inv .0 in
+    let i = left-inside (p .left) in
+    let few = p .few in
+    let most = p .left .most in
+    let k = r .draw-record .ensures .1 in
     record { fits = omega arith }
 
 settings-after-requires : tie.Need-settings-after-requires Inv-loop μ-loop
@@ -67,21 +80,27 @@ kind-size-requires c κs = search needs
 
 add-place : tie.Need-add-place Inv-loop μ-loop
 add-place c =
-    let i = left-inside (c .before .before .before .before .before .before .before .before .before .before .before .loop .inv .0 .left) in
-    let most = c .before .before .before .before .before .before .before .before .before .before .before .loop .inv .0 .left .most in
+    let p = decoded (drawn (sized c)) .loop .inv .0 in
+    let i = left-inside (p .left) in
+    let most = p .left .most in
     let e = c .kind-size .ensures in
     record { fits = omega arith }
 
 loop-less : tie.Need-loop-less Inv-loop μ-loop
 loop-less c =
-    let i = left-inside (c .before .before .before .before .before .before .before .before .before .before .before .loop .inv .0 .left) in
+    let i = left-inside (decoded (drawn (sized c)) .loop .inv .0 .left) in
     let e = c .kind-size .ensures in
     omega arith
 
 loop-again : tie.Need-loop-again Inv-loop μ-loop
 loop-again c =
-    let p = c .before .before .before .before .before .before .before .before .before .before .before .loop .inv in
-    (remaining-next (p .0) (c .before .before .before .before .before .before .before .decode .ensures) (c .before .before .before .before .before .before .before .before .before .if1 .left) (c .before .before .before .before .draw-record .ensures) (c .before .settings-after .ensures) (c .kind-size .ensures), ap length (c .before .before .before .before .draw-record .ensures .0) ∙ length-shapes _ _ _ ∙ p .1)
+    let r = sized c in
+    let d = drawn r in
+    let p = decoded d .loop .inv in
+    let some = d .before .before .if1 .left in (
+      remaining-next (p .0) (d .decode .ensures) some (r .draw-record .ensures) (c .before .settings-after .ensures) (c .kind-size .ensures),
+      ap length (r .draw-record .ensures .0 .page) ∙ length-shapes _ _ _ ∙ p .1,
+    )
 
 pub draw-records-spec : {M : Type 1} → statement M
 draw-records-spec =

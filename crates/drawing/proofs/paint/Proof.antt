@@ -1,3 +1,4 @@
+-- Shapes drawn on a page of one level leave what the touches of each pixel make of that level.
 use mathlib.Core.Path.{ap, _∙_}
 use native.Mathlib.Omega.{arith}
 use Rattle.drawing.specs.inner.Walk.{shapesPage}
@@ -17,9 +18,11 @@ same-length c = search needs
 
 returns : tie.Need-returns
 returns c =
-    let e = c .before .before .draw-records .ensures in
-    let v = c .before .before .before .before .before .before .before .before .before .before .fits .background in
-    (e .0 ∙ ap (shapesPage _ _) (c .before .before .before .before .before .before .fill .ensures) ∙ page-painted _ _ _ _, e .1, e .2, omega arith)
+    let done = c .before .before in
+    let filled = done .before .before .before .before in
+    let v = filled .before .before .before .before .fits .background in
+    let e = done .draw-records .ensures in
+    record { page = e .0 .page ∙ ap (shapesPage _ _) (filled .fill .ensures) ∙ page-painted _ _ _ _; count = e .0 .count; lawful = e .1; byte = omega arith }
 
 pub paint-spec : {M : Type 1} → statement M
 paint-spec = tie.close (tie.spec fill-requires draw-records-requires same-length returns)

@@ -11,6 +11,7 @@ use Rattle.bound.specs.Exact.{byteAfter}
 use Rattle.draw.specs.Touch.{pageAfter}
 use Rattle.lists.specs.Drawing.{Drawing}
 use Rattle.drawing.specs.Touches.{touchesAt}
+use Rattle.drawing.specs.Counts.{shapesCount}
 use Rattle.lists.specs.declared.settings.Settings.{Settings}
 
 abbrev pub settingsOf : Clip → ℕ → Settings
@@ -34,3 +35,15 @@ AllLawful (d ∷ ds) = (d .settings .level ≤ 255) × (shapeRefusal (d .shape) 
 pub record Drawable (s : List ℕ) (b : Basis) (size : ℕ) : Type 0 where
   pub walk : Walkable s b
   pub room : b .w * b .h ≤ size
+
+-- drawings ds, one upon the other on a page that was l, leave m and touch t pixels
+pub record ShapesDrawn (b : Basis) (ds : List Drawing) (l m : List ℕ) (t : ℕ) : Type 0 where
+  pub page : m ≡ shapesPage (b .w) ds l
+  pub count : t ≡ shapesCount (b .w) (b .h) ds
+
+-- lawful drawings ds on a background, which is a byte, leave m and touch t pixels
+pub record ListPainted (b : Basis) (background : ℕ) (ds : List Drawing) (l m : List ℕ) (t : ℕ) : Type 0 where
+  pub page : m ≡ touchedPage (b .w) background ds l
+  pub count : t ≡ shapesCount (b .w) (b .h) ds
+  pub lawful : AllLawful ds
+  pub byte : background ≤ 255

@@ -15,7 +15,7 @@ returns : tie.Need-returns
 unfolding listText
 returns c =
     let drawn = c .before .before .before .before .draw-list .ensures in
-    (c .put-answer .ensures .0 ∙ ap₂ answerText (drawn .0) (drawn .1 .0), omega arith)
+    (c .put-answer .ensures .0 ∙ ap₂ answerText (drawn .answer) (drawn .page), omega arith)
 
 pub put-list-spec : {M : Type 1} → statement M
 put-list-spec = tie.close (tie.spec draw-list-requires put-answer-requires returns)

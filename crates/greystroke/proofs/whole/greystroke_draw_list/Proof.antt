@@ -1,4 +1,7 @@
-use mathlib.Core.Path.{ap, _∙_}
+-- The library's claim, about the answer that C is told.
+use mathlib.Core.Path.{ap, subst, _∙_}
+use Rattle.drawing.specs.Claim.{Claim}
+use Rattle.drawing.specs.declared.Answer.{Answer}
 use Rattle.greystroke.specs.Whole.{listAnswered}
 use borrow.Author.Needs.{needs}
 use Rattle.greystroke.proofs.whole.greystroke_draw_list.Statement.{statement}
@@ -15,8 +18,11 @@ same-length c = search needs
 
 returns : tie.Need-returns
 returns c =
-    let e = c .before .before .before .draw-list .ensures in
-    (c .list-answer .ensures ∙ ap listAnswered (e .0), (e .1 .0, (e .1 .1 .0, c .list-answer .ensures ∙ ap listAnswered (e .1 .1 .1))))
+    let drawn = c .before .before .before in
+    let s = drawn .before .before .before .before in
+    let claim = drawn .draw-list .ensures in
+    let same = subst (λ (r : Answer). Claim (s .args .list .now) (s .args .page .now) r (drawn .draw-list .last .0)) (claim .answer) claim in
+    (c .list-answer .ensures ∙ ap listAnswered (claim .answer), same)
 
 pub greystroke-draw-list-spec : {M : Type 1} → statement M
 greystroke-draw-list-spec =
