@@ -6,6 +6,7 @@ use Prim.Native.Nat.{ℕ, zero, suc, _+_, _*_, _^_, _≤_, _<_}
 use native.Mathlib.Nat.{mul-le-mul, mul-pos}
 use native.Mathlib.Omega.{arith}
 use lib.ListN.{length}
+use Rattle.numbers.specs.inner.Offset.{origin}
 use Rattle.shapes.specs.declared.Line.{Line}
 use Rattle.coverage.specs.Line.{exactWhole, approxWhole, restOf}
 use Rattle.coverage.specs.inner.Rows.{cutExcess, rowsOf, wholeOf}
@@ -60,7 +61,7 @@ rows-cover t l s exact c p h k e =
 
 -- ---- one column
 module _ (c : View) (n : Line) (f : Frame) (lay : Layout) (size p k g r level d : ℕ) (rows : Rows) (w : Lawful c size) (fr : Framed n f) (la : Laid c f lay)
-    (low : alongFrom c f ≤ p) (end : p < alongEnd c f) (first : f .x ≤ p + 4096) (last : p + 4096 < f .x + f .l)
+    (low : alongFrom c f ≤ p) (end : p < alongEnd c f) (first : f .x ≤ p + origin) (last : p + origin < f .x + f .l)
     (at : At f lay p k g r) (rows-is : rows ≡ rowsOf (n .exact) (f .l) (f .s) r) (d-is : d ≡ wholeOf (n .exact) (f .l) (f .s)) where
   pub one-column : (l : List ℕ) → length l ≡ size
       → Drawn (c .w) (c .h) (lineInk n level) (strip c f p (p + 1) (lineOn n)) l (columned lay (inkOf level d) rows k g l) (columnCount lay rows g)

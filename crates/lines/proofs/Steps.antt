@@ -9,6 +9,7 @@ use native.Mathlib.Omega.{arith}
 use lib.Dec.{leb}
 use lib.ListN.{length, getD, set}
 use borrow.Author.Tests.{le-leb, lt-ltb}
+use Rattle.numbers.specs.inner.Offset.{origin}
 use Rattle.coverage.specs.inner.Rows.{rowsOf, cutExcess}
 use Rattle.coverage.specs.declared.line.Frame.{Frame}
 use Rattle.coverage.specs.declared.line.Rows.{Rows}
@@ -42,11 +43,11 @@ module _ {s : Stroke} {size : ℕ} {at : Step} (here : Steppable s at size) wher
   end : at .p < alongEnd (s .view) f
   end = omega (arith, here .within .right)
 
-  last : at .p + 4096 < f .x + f .l
+  last : at .p + origin < f .x + f .l
   last = omega (arith, here .within .last)
 
   pub rest-less : at .r < 2 * f .l
-  rest-less = rw (stand .is .r-is) (rest-lt (f .l) (f .s) (at .p + 4096 - f .x) (ready .framed .long))
+  rest-less = rw (stand .is .r-is) (rest-lt (f .l) (f .s) (at .p + origin - f .x) (ready .framed .long))
 
   pub reaches : Reachable lay (at .k) (at .g) size
   reaches =
@@ -57,7 +58,7 @@ module _ {s : Stroke} {size : ℕ} {at : Step} (here : Steppable s at size) wher
   rowsHere = rowsOf (s .line .exact) (f .l) (f .s) (at .r)
 
   filled : Filled (cutExcess (f .l) (f .s) (at .r)) (s .d) rowsHere
-  filled = rw (ready .d-is, stand .is .r-is) (rows-filled (s .line .exact) (f .l) (f .s) (at .p + 4096 - f .x) (ready .framed .long) (ready .framed .short))
+  filled = rw (ready .d-is, stand .is .r-is) (rows-filled (s .line .exact) (f .l) (f .s) (at .p + origin - f .x) (ready .framed .long) (ready .framed .short))
 
   pub covers : Covers rowsHere (s .d)
   covers =
