@@ -13,7 +13,7 @@ use Rattle.numbers.specs.inner.Offset.{origin}
 use Rattle.numbers.proofs.Order.{lt-or-le, eq-or-ne}
 use Rattle.shapes.specs.declared.Line.{Line}
 use Rattle.coverage.specs.Line.{rowOf, restOf}
-use Rattle.coverage.specs.inner.Rows.{exactRows, approxRows, atRow}
+use Rattle.coverage.specs.inner.Rows.{rowsOf, atRow}
 use Rattle.coverage.specs.inner.Frame.{Framed}
 use Rattle.coverage.specs.declared.line.Frame.{Frame}
 use Rattle.coverage.specs.declared.line.Rows.{Rows}
@@ -81,7 +81,7 @@ module _ (c : View) (n : Line) (f : Frame) (lay : Layout) (size p : ℕ) (w : La
   q = rowOf (f .l) (f .s) i
 
   abbrev rows : Rows
-  rows = cond (n .exact) (exactRows (f .l) (f .s) (restOf (f .l) (f .s) i)) (approxRows (f .l) (f .s) (restOf (f .l) (f .s) i))
+  rows = rowsOf (n .exact) (f .l) (f .s) (restOf (f .l) (f .s) i)
 
   abbrev G : ℕ
   G = 16384 + q
@@ -89,7 +89,7 @@ module _ (c : View) (n : Line) (f : Frame) (lay : Layout) (size p : ℕ) (w : La
   -- a pixel of the column has what the closed rows say
   value : (x y : ℕ) → cond (f .steep) y x ≡ p → x ≤ 4095 → y ≤ 4095 → lineOn n x y ≡ atRow rows (subℕ (rowAt f x y) G)
   value x y e hx hy =
-      subst (λ (a : ℕ). lineOn n x y ≡ atRow (cond (n .exact) (exactRows (f .l) (f .s) (restOf (f .l) (f .s) (a + origin - f .x))) (approxRows (f .l) (f .s) (restOf (f .l) (f .s) (a + origin - f .x)))) (subℕ (rowAt f x y) (16384 + rowOf (f .l) (f .s) (a + origin - f .x)))) e
+      subst (λ (a : ℕ). lineOn n x y ≡ atRow (rowsOf (n .exact) (f .l) (f .s) (restOf (f .l) (f .s) (a + origin - f .x))) (subℕ (rowAt f x y) (16384 + rowOf (f .l) (f .s) (a + origin - f .x)))) e
       (line-inside g x y hx hy (rw e first) (rw e last))
 
   abbrev column : ℕ → ℕ → ℕ

@@ -14,7 +14,7 @@ use Rattle.coverage.specs.inner.Rows.{rowsOf, cutExcess}
 use Rattle.coverage.specs.declared.line.Frame.{Frame}
 use Rattle.coverage.specs.declared.line.Rows.{Rows}
 use Rattle.coverage.proofs.Closed.{rest-lt}
-use Rattle.coverage.proofs.Column.{Filled}
+use Rattle.coverage.proofs.Column.{Filled, filled as rows-filled}
 use Rattle.page.specs.inner.Ink.{inkOf}
 use Rattle.page.specs.Blend.{blend}
 use Rattle.page.specs.inner.Paint.{touch}
@@ -25,7 +25,7 @@ use Rattle.lines.specs.declared.step.Step.{Step}
 use Rattle.lines.specs.declared.step.Stroke.{Stroke}
 use Rattle.lines.proofs.Advance.{advance, reachable, k-most}
 use Rattle.lines.proofs.Dots.{spotted-blend}
-use Rattle.lines.proofs.Columns.{Covers, rows-filled, rows-cover, one-column, layout-le, along-most}
+use Rattle.lines.proofs.Columns.{Covers, rows-cover, one-column, layout-le, along-most}
 
 module _ {s : Stroke} {size : ℕ} {at : Step} (here : Steppable s at size) where
   ready : Prepared s size

@@ -11,11 +11,11 @@ use Rattle.numbers.proofs.Integer.{sub-same}
 use Rattle.numbers.proofs.Coordinate.{InRange, in-range, pixel-in, pixel-offset}
 use Rattle.shapes.specs.declared.Line.{Line}
 use Rattle.coverage.specs.Line.{rowOf, restOf}
-use Rattle.coverage.specs.inner.Rows.{exactRows, approxRows, atRow}
+use Rattle.coverage.specs.inner.Rows.{rowsOf, atRow}
 use Rattle.coverage.specs.inner.Frame.{Framed}
 use Rattle.coverage.specs.declared.line.Frame.{Frame}
 use Rattle.coverage.specs.declared.line.Rows.{Rows}
-use Rattle.coverage.proofs.Pixel.{drawn-left, drawn-right, drawn-inside, across-le}
+use Rattle.coverage.proofs.Pixel.{drawn-left, drawn-right, drawn-inside}
 use Rattle.page.specs.inner.Paint.{clipped, inView, Lawful}
 use Rattle.page.specs.declared.View.{View}
 use Rattle.page.proofs.Clip.{Inside, Outside, in-or-out, left-of, right-of, above, below, clip-in, clip-out, clip-shrink, clip-columns, clip-rows, Join}
@@ -143,7 +143,7 @@ module _ {n : Line} {f : Frame} (g : Framed n f) (x y : ℕ) (hx : x ≤ 4095) (
   i = a + origin - f .x
 
   abbrev rows : Rows
-  rows = cond (n .exact) (exactRows (f .l) (f .s) (restOf (f .l) (f .s) i)) (approxRows (f .l) (f .s) (restOf (f .l) (f .s) i))
+  rows = rowsOf (n .exact) (f .l) (f .s) (restOf (f .l) (f .s) i)
 
   pub line-inside : f .x ≤ a + origin → a + origin < f .x + f .l
       → lineOn n x y
@@ -151,7 +151,7 @@ module _ {n : Line} {f : Frame} (g : Framed n f) (x y : ℕ) (hx : x ≤ 4095) (
   line-inside h k =
       let q : ℕ = rowOf (f .l) (f .s) i in
       let low : ℕ = cond (f .falls) (f .y + 8191 - (cond (f .steep) x y + origin)) (cond (f .steep) x y + origin + 8192 - f .y) in
-      let e = drawn-inside g px py (across-le g px py) (rw along-offset h) (rw along-offset k) in
+      let e = drawn-inside g px py (rw along-offset h) (rw along-offset k) in
       sym (rw (along-offset, across-offset) at e) ∙ ap (atRow rows) (sub-same low (8192 + q) (rowAt f x y) (16384 + q) (omega (arith, row-shift)))
 
 -- ---- a line lies in its own columns
