@@ -12,12 +12,13 @@ use Rattle.numbers.specs.inner.Order.{dist}
 use Rattle.numbers.specs.inner.Offset.{offsetOf}
 use Rattle.numbers.proofs.Order.{lt-or-le}
 use Rattle.numbers.proofs.Integer.{Diff, diff-pos, diff-neg, diff-minus, diff-shift}
-use Rattle.numbers.proofs.Coordinate.{InRange, in-range, offset-diff, offset-dist, le-offset}
+use Rattle.numbers.proofs.Coordinate.{InRange, in-range, offset-diff, le-offset}
 use Rattle.shapes.specs.declared.Line.{Line}
 use Rattle.shapes.specs.declared.Ends.{Ends as OffsetEnds}
 use Rattle.shapes.specs.inner.Offsets.{endsOf}
 use Rattle.shapes.proofs.Limits.{LawfulLine}
-use Rattle.shapes.specs.Span.{spanX, spanY, longer, shorter, steep}
+use Rattle.shapes.proofs.Span.{span-x, span-y, some-span, span-le}
+use Rattle.shapes.specs.Span.{longer, shorter, steep}
 use Rattle.coverage.specs.Frame.{Ends, exchanged, rising, framed, falls, mirrored, columnOf, straightRow, frameRow}
 use Rattle.coverage.specs.inner.Frame.{exchangedBy, inOrder, Rising, Framed}
 use Rattle.coverage.specs.declared.line.Frame.{Frame}
@@ -33,10 +34,6 @@ either false P p q = q
 cond-offset : (t : Bool) (a b : ℤ) → offsetOf (cond t a b) ≡ cond t (offsetOf a) (offsetOf b)
 cond-offset true a b = refl
 cond-offset false a b = refl
-
-pub span-le : (n : Line) → shorter n ≤ longer n
-unfolding shorter longer
-span-le n = omega arith
 
 -- ---- the ends of the frame
 
@@ -90,31 +87,19 @@ module _ (n : Line) (w : LawfulLine n) where
   abbrev along : ℕ
   along = dist (offsetOf (n .y0)) (offsetOf (n .y1))
 
-  span-x : spanX n ≡ across
-  unfolding spanX
-  span-x = omega (arith, offset-dist (w .x1-in) (w .x0-in))
-
-  span-y : spanY n ≡ along
-  unfolding spanY
-  span-y = omega (arith, offset-dist (w .y1-in) (w .y0-in))
-
-  pub some-span : 0 < longer n
-  unfolding longer
-  some-span = omega (arith, w .differ, span-x, span-y)
-
   -- exchanged where y is the longer, x spans the longer
   abbrev ends : OffsetEnds
   ends = exchangedBy (ltb across along) (endsOf n)
 
   steep-is : steep n ≡ ltb across along
   unfolding steep
-  steep-is = rw (span-x, span-y)
+  steep-is = rw (span-x n w, span-y n w)
 
   exchanged-spans : (longer n ≡ dist (ends .x0) (ends .x1)) × (shorter n ≡ dist (ends .y0) (ends .y1))
   unfolding longer shorter
   exchanged-spans =
-      ⊎-elim (λ h. rw (lt-ltb across along h) (omega (arith, span-x, span-y), omega (arith, span-x, span-y)))
-      (λ h. rw (le-ltb across along h) (omega (arith, span-x, span-y), omega (arith, span-x, span-y)))
+      ⊎-elim (λ h. rw (lt-ltb across along h) (omega (arith, span-x n w, span-y n w), omega (arith, span-x n w, span-y n w)))
+      (λ h. rw (le-ltb across along h) (omega (arith, span-x n w, span-y n w), omega (arith, span-x n w, span-y n w)))
       (lt-or-le across along)
 
   abbrev flat : Ends
@@ -158,7 +143,7 @@ module _ (n : Line) (w : LawfulLine n) where
         y-is = k .y-is;
         x-in = i .x0-in .test;
         y-in = i .y0-in .test;
-        long = rw l some-span;
+        long = rw l (some-span n w);
         short = rw (l, s) (span-le n);
         right = omega (arith, right, h .l-is, h .x-is, o .order);
         high = omega (arith, k .y-is, i .y0-in .less);

@@ -22,7 +22,7 @@ use Rattle.coverage.specs.Frame.{columnOf, frameRow}
 use Rattle.coverage.specs.Circle.{discCover, ringCover}
 use Rattle.coverage.specs.Coverage.{inColumns, lineCover, Rule, Rules, alike, exactRule, chordRule, lineRules, rulesOf}
 use Rattle.coverage.proofs.Column.{part-le, same-touched, near}
-use Rattle.coverage.proofs.Framing.{some-span, span-le}
+use Rattle.shapes.proofs.Span.{some-span, span-le}
 use Rattle.coverage.proofs.Chord.{disc-le, ring-le}
 
 -- a relation that holds of 0 and 0, and in every column
