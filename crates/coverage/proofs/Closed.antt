@@ -3,7 +3,7 @@ use mathlib.Core.Path.{_≡_, refl, sym, _∙_, ap}
 use mathlib.Core.Logic.{_⊎_, inl, inr, ⊎-elim}
 use mathlib.Core.Bool.{Bool, true, false, cond}
 use Prim.Native.Nat.{ℕ, zero, suc, _+_, _*_, _-_, _≤_, _<_}
-use native.Mathlib.Nat.{mul-le-mul, mul-le-mul-left, div-add-mod, mod-lt, div-eq-of-lt, mod-eq-of-lt}
+use native.Mathlib.Nat.{mul-le-mul, div-add-mod, mod-lt, div-eq-of-lt, mod-eq-of-lt}
 use native.Mathlib.Omega.{arith}
 use lib.Dec.{T}
 use lib.IntN.{ℤ, pos, negsuc, subℕ, _+ℤ_, _-ℤ_, +ℤ-comm, -ℤ-+ℤ-cancel, +ℤ-idr}
@@ -11,7 +11,7 @@ use lib.Signed.{leZ}
 use Rattle.numbers.proofs.Order.{lt-or-le}
 use Rattle.numbers.proofs.Integer.{Diff, is-above, is-below, diff-of, diff-pos, diff-sub, diff-add, diff-minus, diff-shift, diff-unique, diff-le, le-diff}
 use Rattle.coverage.specs.Line.{F, levelRow, exactRow, exactWhole, approxWhole, rowOf, restOf, threeRows, excess, flatRows, crossedRows, approxRow}
-use Rattle.coverage.specs.inner.Rows.{cutExcess, exactRows, approxRows, rowsOf, wholeOf, riseOf, cornerOf, atRow}
+use Rattle.coverage.specs.inner.Rows.{ruleOf, wholeOf, cutExcess, riseOf, cornerOf, cornerAt, rowsOf, atRow}
 use Rattle.coverage.specs.declared.line.Rows.{Rows}
 use Rattle.coverage.proofs.Slant.{row-is}
 use Rattle.coverage.proofs.Bounds.{square-le-rest, lowest, lower-pos, middle-pos}
@@ -49,10 +49,10 @@ module _ (l s i q r : ℕ) (hs : suc s ≤ l) (hr : r < 2 * l) (col : l + 2 * su
   t = cutExcess l (suc s) r
 
   abbrev rows : Rows
-  rows = exactRows l (suc s) r
+  rows = rowsOf true l (suc s) r
 
   slanted : (k : ℤ) → row (pos q +ℤ k) ≡ pos (atRow rows k)
-  unfolding atRow exactRows
+  unfolding atRow riseOf exactWhole
   slanted (pos zero) =
       row-is l (suc s) i r 0 (r + 2 * suc s) r t 0 0 0 (rows .middle) (at (pos zero) (diff-pos 0)) (omega arith) (omega arith)
       (omega (arith, square-le-rest l (suc s) r hs hr, middle-pos l (suc s) r hs hr (omega arith)))
@@ -78,20 +78,22 @@ pub level-column : (l i : ℕ) → 0 < l → (rowOf l 0 i ≡ 0) × (restOf l 0 
 unfolding rowOf restOf
 level-column l i p = (div-eq-of-lt (omega arith), mod-eq-of-lt {n = l + 2 * 0 * i} {m = 2 * l} (omega arith) ∙ omega arith)
 
-level : (l r : ℕ) (j : ℤ) → levelRow j ≡ pos (atRow (exactRows l 0 r) j)
-unfolding levelRow atRow exactRows
-level l r (pos zero) = refl
-level l r (pos (suc zero)) = refl
-level l r (pos (suc (suc j))) = refl
-level l r (negsuc zero) = refl
-level l r (negsuc (suc j)) = refl
+level : (l r : ℕ) → r < 2 * l → (j : ℤ) → levelRow j ≡ pos (atRow (rowsOf true l 0 r) j)
+unfolding levelRow atRow riseOf exactWhole
+level l r h j = let z : cutExcess l 0 r ≡ 0 = omega arith in go (ap (cornerOf true) z) j
+  where
+    go : cornerAt true l 0 r ≡ 0 → (j : ℤ) → levelRow j ≡ pos (atRow (rowsOf true l 0 r) j)
+    go z (pos zero) = ap pos (omega (arith, z))
+    go z (pos (suc zero)) = ap pos (sym z)
+    go z (pos (suc (suc j))) = refl
+    go z (negsuc zero) = ap pos (omega (arith, z))
+    go z (negsuc (suc j)) = refl
 
--- ---- any exact row
-pub exact-closed : (l s i : ℕ) (j : ℤ) → 0 < l → s ≤ l → exactRow l s i j ≡ pos (atRow (exactRows l s (restOf l s i)) (j -ℤ pos (rowOf l s i)))
+exact-closed : (l s i : ℕ) (j : ℤ) → 0 < l → s ≤ l → exactRow l s i j ≡ pos (atRow (rowsOf true l s (restOf l s i)) (j -ℤ pos (rowOf l s i)))
 unfolding exactRow
 exact-closed l zero i j p h =
-    level l (restOf l 0 i) j
-    ∙ ap (λ (k : ℤ). pos (atRow (exactRows l 0 (restOf l 0 i)) k)) (sym (ap (λ (q : ℕ). j -ℤ pos q) (level-column l i p .0) ∙ +ℤ-idr j))
+    level l (restOf l 0 i) (rest-lt l 0 i p) j
+    ∙ ap (λ (k : ℤ). pos (atRow (rowsOf true l 0 (restOf l 0 i)) k)) (sym (ap (λ (q : ℕ). j -ℤ pos q) (level-column l i p .0) ∙ +ℤ-idr j))
 exact-closed l (suc s) i j p h =
     let q : ℕ = rowOf l (suc s) i in
     ap (λ (z : ℤ). F l (suc s) i z -ℤ F l (suc s) i (z +ℤ pos 1)) (sym (from-row q j))
@@ -114,33 +116,34 @@ module _ (l s r : ℕ) (hs : s ≤ l) (hr : r < 2 * l) where
   lowest-diff : Diff (pos (4 * l) -ℤ pos (2 * r) -ℤ pos (2 * s)) (4 * l) (2 * r + 2 * s)
   lowest-diff = diff-shift (4 * l) (2 * r + 2 * s) (diff-minus (diff-minus (diff-pos (4 * l)) (diff-pos (2 * r))) (diff-pos (2 * s))) (omega arith)
 
-  flat : r + 2 * s ≤ 2 * l → (k : ℤ) → flatRows l s r k ≡ pos (atRow (approxRows l s r) k)
-  unfolding flatRows approxRows
-  flat h =
-      three-is (approxRows l s r) (ap pos (omega arith)) (ap pos (omega arith))
-      (diff-unique lowest-diff (diff-pos (approxRows l s r .lower)) (omega arith))
+  abbrev approxes : Rows
+  approxes = rowsOf false l s r
 
-  crossed : 2 * l < r + 2 * s → (k : ℤ) → crossedRows l s r k ≡ pos (atRow (approxRows l s r) k)
-  unfolding crossedRows approxRows
+  flat : r + 2 * s ≤ 2 * l → (k : ℤ) → flatRows l s r k ≡ pos (atRow approxes k)
+  unfolding flatRows riseOf approxWhole
+  flat h = three-is approxes (ap pos (omega arith)) (ap pos (omega arith)) (diff-unique lowest-diff (diff-pos (approxes .lower)) (omega arith))
+
+  crossed : 2 * l < r + 2 * s → (k : ℤ) → crossedRows l s r k ≡ pos (atRow approxes k)
+  unfolding crossedRows riseOf approxWhole
   crossed h =
-      three-is (approxRows l s r)
+      three-is approxes
       (diff-unique excess-diff (diff-pos (cutExcess l s r)) (omega arith))
-      (diff-unique (diff-minus (diff-pos (4 * l)) (diff-pos (2 * s))) (diff-pos (approxRows l s r .middle)) (omega arith))
-      (diff-unique (diff-add lowest-diff excess-diff) (diff-pos (approxRows l s r .lower)) (omega arith))
+      (diff-unique (diff-minus (diff-pos (4 * l)) (diff-pos (2 * s))) (diff-pos (approxes .middle)) (omega arith))
+      (diff-unique (diff-add lowest-diff excess-diff) (diff-pos (approxes .lower)) (omega arith))
 
-  abbrev byExcess : Bool → ℤ → ℤ
-  byExcess b = cond b (flatRows l s r) (crossedRows l s r)
-
-  by-excess : (k : ℤ) → byExcess (leZ (excess l s r) (pos 0)) k ≡ pos (atRow (approxRows l s r) k)
+  by-excess : (k : ℤ) → cond (leZ (excess l s r) (pos 0)) (flatRows l s r) (crossedRows l s r) k ≡ pos (atRow approxes k)
   by-excess k = go (leZ (excess l s r) (pos 0)) (λ t. omega (arith, diff-le excess-diff (diff-pos 0) t)) (λ h. le-diff excess-diff (diff-pos 0) (omega arith))
     where
-      go : (b : Bool) → (T b → r + 2 * s ≤ 2 * l) → (r + 2 * s ≤ 2 * l → T b) → byExcess b k ≡ pos (atRow (approxRows l s r) k)
+      go : (b : Bool) → (T b → r + 2 * s ≤ 2 * l) → (r + 2 * s ≤ 2 * l → T b) → cond b (flatRows l s r) (crossedRows l s r) k ≡ pos (atRow approxes k)
       go true f g = flat (f tt) k
       go false f g = crossed (⊎-elim (λ h. h) (λ h. absurd (g h)) (lt-or-le (2 * l) (r + 2 * s))) k
 
-pub approx-closed : (l s i : ℕ) (j : ℤ) → 0 < l → s ≤ l → approxRow l s i j ≡ pos (atRow (approxRows l s (restOf l s i)) (j -ℤ pos (rowOf l s i)))
+-- ---- any row, under either rule
+pub closed : (exact : Bool) (l s i : ℕ) (j : ℤ) → 0 < l → s ≤ l
+    → ruleOf exact l s i j ≡ pos (atRow (rowsOf exact l s (restOf l s i)) (j -ℤ pos (rowOf l s i)))
 unfolding approxRow
-approx-closed l s i j p h = by-excess l s (restOf l s i) h (rest-lt l s i p) (j -ℤ pos (rowOf l s i))
+closed true l s i j p h = exact-closed l s i j p h
+closed false l s i j p h = by-excess l s (restOf l s i) h (rest-lt l s i p) (j -ℤ pos (rowOf l s i))
 
 -- ---- as the code computes them
 pub whole-level : (l s : ℕ) → s ≡ 0 → exactWhole l s ≡ 2
@@ -157,17 +160,6 @@ rows-same : {a b c a′ b′ c′ : ℕ} → a ≡ a′ → b ≡ b′ → c ≡
     → _≡_ {A = Rows} (record { upper = a; middle = b; lower = c }) (record { upper = a′; middle = b′; lower = c′ })
 rows-same e f g = λ i. record { upper = e i; middle = f i; lower = g i }
 
-rows-slanted : (l s r : ℕ) → 0 < s
-    → exactRows l s r
-    ≡ record {
-      upper = cutExcess l s r * cutExcess l s r;
-      middle = 4 * (s * (r + s)) - 2 * (cutExcess l s r * cutExcess l s r);
-      lower = 8 * (l * s) + cutExcess l s r * cutExcess l s r - 4 * (s * (r + s));
-    }
-unfolding exactRows
-rows-slanted l zero r h = absurd (omega arith)
-rows-slanted l (suc s) r h = refl
-
 pub rise-level : (s r : ℕ) → s ≡ 0 → riseOf true s r ≡ 1
 unfolding riseOf
 rise-level zero r e = refl
@@ -178,45 +170,54 @@ unfolding riseOf
 rise-slanted zero r h = absurd (omega arith)
 rise-slanted (suc s) r h = refl
 
--- two rows where t is at most 0
-module _ (l r : ℕ) where
-  pub rise-le : (exact : Bool) (s : ℕ) → r + 2 * s ≤ 2 * l → riseOf exact s r ≤ wholeOf exact l s
-  unfolding riseOf exactWhole approxWhole
-  rise-le true zero h = omega arith
-  rise-le true (suc s) h = let h : suc s * (r + suc s) ≤ suc s * (2 * l) = mul-le-mul-left (suc s) (omega arith) in omega arith
-  rise-le false s h = omega arith
+-- the corner is at most half of the rise, and the lower row is not empty
+pub middle-some : (exact : Bool) (l s r : ℕ) → s ≤ l → r < 2 * l → 0 < r + s → 2 * cornerAt exact l s r < riseOf exact s r
+unfolding riseOf
+middle-some true l zero r h k z = let e : cutExcess l 0 r ≡ 0 = omega arith in rw e (omega arith)
+middle-some true l (suc s) r h k z = middle-pos l (suc s) r h k (omega arith)
+middle-some false l s r h k z = omega arith
 
-  pub flat-is : (exact : Bool) (s : ℕ) → r + 2 * s ≤ 2 * l
-      → record { upper = 0; middle = riseOf exact s r; lower = wholeOf exact l s - riseOf exact s r } ≡ rowsOf exact l s r
-  unfolding riseOf exactWhole approxWhole exactRows approxRows
-  flat-is true zero h = refl
-  flat-is true (suc s) h =
-      let z : cutExcess l (suc s) r ≡ 0 = omega arith in
-      let square : cutExcess l (suc s) r * cutExcess l (suc s) r ≡ 0 = rw z refl in
-      rows-same (omega (arith, square)) (omega (arith, square)) (omega (arith, square))
-  flat-is false s h = rows-same (omega arith) (omega arith) (omega arith)
+pub lower-some : (exact : Bool) (l s r : ℕ) → s ≤ l → r < 2 * l → riseOf exact s r < wholeOf exact l s + cornerAt exact l s r
+unfolding riseOf exactWhole approxWhole
+lower-some true l zero r h k = omega arith
+lower-some true l (suc s) r h k = omega (arith, lower-pos l (suc s) r h k (omega arith))
+lower-some false l s r h k = omega arith
 
--- three rows, or two, where t is not negative
-module _ (l s r : ℕ) (short : s ≤ l) (rest : r < 2 * l) (crossed : 2 * l ≤ r + 2 * s) where
-  some : 0 < s
-  some = omega arith
+module _ (exact : Bool) (l s r : ℕ) (short : s ≤ l) (rest : r < 2 * l) where
+  -- two rows where t is at most 0: there is no corner
+  module _ (flat : r + 2 * s ≤ 2 * l) where
+    no-corner : cornerAt exact l s r ≡ 0
+    no-corner = let e : cutExcess l s r ≡ 0 = omega arith in ap (cornerOf exact) e ∙ none exact
+      where
+        none : (t : Bool) → cornerOf t 0 ≡ 0
+        none true = refl
+        none false = refl
 
-  pub corners-le : (exact : Bool) → cornerOf exact (cutExcess l s r) + cornerOf exact (2 * l - r) ≤ wholeOf exact l s
-  unfolding approxWhole
-  corners-le true = rw (whole-slanted l s some) (omega (arith, lowest l s r short rest crossed, middle-pos l s r short rest some))
-  corners-le false = omega arith
+    pub rise-le : riseOf exact s r ≤ wholeOf exact l s
+    rise-le = omega (arith, no-corner, lower-some exact l s r short rest)
 
-  pub crossed-is : (exact : Bool)
-      → record {
-        upper = cornerOf exact (cutExcess l s r);
-        middle = wholeOf exact l s - cornerOf exact (cutExcess l s r) - cornerOf exact (2 * l - r);
-        lower = cornerOf exact (2 * l - r);
-      } ≡ rowsOf exact l s r
-  unfolding approxWhole approxRows
-  crossed-is true =
-      let low = lowest l s r short rest crossed in
-      rw (whole-slanted l s some, rows-slanted l s r some) (rows-same refl (omega (arith, low, middle-pos l s r short rest some)) (omega (arith, low)))
-  crossed-is false = rows-same refl (omega arith) (omega arith)
+    pub flat-is : record { upper = 0; middle = riseOf exact s r; lower = wholeOf exact l s - riseOf exact s r } ≡ rowsOf exact l s r
+    flat-is = rows-same (sym no-corner) (omega (arith, no-corner)) (omega (arith, no-corner))
+
+  -- three rows, or two, where t is not negative: the lower row is a corner too
+  module _ (crossed : 2 * l ≤ r + 2 * s) where
+    two-corners : wholeOf exact l s + cornerAt exact l s r ≡ riseOf exact s r + cornerOf exact (2 * l - r)
+    unfolding riseOf approxWhole
+    two-corners = by exact
+      where
+        by : (t : Bool) → wholeOf t l s + cornerAt t l s r ≡ riseOf t s r + cornerOf t (2 * l - r)
+        by true = rw (whole-slanted l s (omega arith), rise-slanted s r (omega arith)) (lowest l s r short rest crossed)
+        by false = omega arith
+
+    pub corners-le : cornerAt exact l s r + cornerOf exact (2 * l - r) ≤ wholeOf exact l s
+    corners-le = omega (arith, two-corners, middle-some exact l s r short rest (omega arith))
+
+    pub crossed-is : record {
+      upper = cornerAt exact l s r;
+      middle = wholeOf exact l s - cornerAt exact l s r - cornerOf exact (2 * l - r);
+      lower = cornerOf exact (2 * l - r);
+    } ≡ rowsOf exact l s r
+    crossed-is = rows-same refl (omega (arith, two-corners)) (omega (arith, two-corners))
 
 -- row g − b above row q, by g + 1 − b
 module _ (c : Rows) (g b : ℕ) where

@@ -21,8 +21,8 @@ use Rattle.shapes.specs.Span.{longer, shorter}
 use Rattle.coverage.specs.Frame.{columnOf, frameRow}
 use Rattle.coverage.specs.Circle.{discCover, ringCover}
 use Rattle.coverage.specs.Coverage.{inColumns, lineCover, Rule, Rules, alike, exactRule, chordRule, lineRules, rulesOf}
-use Rattle.coverage.proofs.Column.{exact-le, approx-le, same-touched, near}
-use Rattle.coverage.proofs.Framing.{some-span, span-le}
+use Rattle.coverage.proofs.Column.{part-le, same-touched, near}
+use Rattle.shapes.proofs.Span.{some-span, span-le}
 use Rattle.coverage.proofs.Chord.{disc-le, ring-le}
 
 -- a relation that holds of 0 and 0, and in every column
@@ -56,10 +56,10 @@ module _ (n : Line) (w : LawfulLine n) (x y : ℤ) where
   both R none each = columns R l (λ i. exactRow l s i (frameRow n x y)) (λ i. approxRow l s i (frameRow n x y)) none each (columnOf n x y)
 
   line-exact-le : lineCover exactRow n x y ≤ exactWhole l s
-  line-exact-le = both (λ (e a : ℕ). e ≤ exactWhole l s) (omega arith) (λ i. exact-le l s i (frameRow n x y) long (span-le n))
+  line-exact-le = both (λ (e a : ℕ). e ≤ exactWhole l s) (omega arith) (λ i. part-le true l s i (frameRow n x y) long (span-le n))
 
   line-approx-le : lineCover approxRow n x y ≤ approxWhole l
-  line-approx-le = both (λ (e a : ℕ). a ≤ approxWhole l) (omega arith) (λ i. approx-le l s i (frameRow n x y) long (span-le n))
+  line-approx-le = both (λ (e a : ℕ). a ≤ approxWhole l) (omega arith) (λ i. part-le false l s i (frameRow n x y) long (span-le n))
 
   line-touched : (0 < lineCover exactRow n x y) ↔ (0 < lineCover approxRow n x y)
   line-touched = both (λ (e a : ℕ). (0 < e) ↔ (0 < a)) (λ h. h, λ h. h) (λ i. same-touched l s i (frameRow n x y) long (span-le n))

@@ -4,7 +4,7 @@ ghost use Prim.Native.Nat.{_+_, _*_, _-_, _≤_, _<_};
 ghost use lib.IntN.{subℕ};
 ghost use Rattle.coverage.specs.Line.{rowOf, restOf};
 ghost use Rattle.coverage.specs.inner.Rows.{riseOf, cornerOf, rowsOf, wholeOf, atRow};
-ghost use Rattle.coverage.specs.inner.Frame.{Rising, Framed};
+ghost use Rattle.coverage.specs.inner.Frame.{exchangedBy, inOrder, Rising, Framed};
 ghost use Rattle.coverage.specs.Coverage.{ratioOf};
 ghost use Rattle.numbers.specs.Coordinate.{inRange};
 ghost use Rattle.shapes.specs.Limits.{shapeRefusal};
@@ -35,37 +35,61 @@ pub struct Crossing {
     pub r: u64,
 }
 
+// The ends, with x and y exchanged where y is the longer.
+fn exchanged(steep: bool, e: shapes::Ends) -> shapes::Ends
+    ensures { λ r. ⌜ r ≡ exchangedBy steep e ⌝ }
+{
+    if steep {
+        shapes::Ends {
+            x0: e.y0,
+            y0: e.x0,
+            x1: e.y1,
+            y1: e.x1,
+        }
+    } else {
+        e
+    }
+}
+
+// The ends in the order in which x rises.
+fn ordered(e: shapes::Ends) -> shapes::Ends
+    ensures { λ r. ⌜ r ≡ inOrder e ⌝ }
+{
+    if e.x0 <= e.x1 {
+        e
+    } else {
+        shapes::Ends {
+            x0: e.x1,
+            y0: e.y1,
+            x1: e.x0,
+            y1: e.y0,
+        }
+    }
+}
+
 // The frame of ends in which x rises.
-fn rising_frame(steep: bool, x0: u64, y0: u64, x1: u64, y1: u64) -> Frame
-    requires { ⌜ x0 ≤ x1 ⌝ }
-    ensures { λ r. ⌜ Rising steep x0 y0 x1 y1 r ⌝ }
+fn rising_frame(steep: bool, e: shapes::Ends) -> Frame
+    requires { ⌜ e .x0 ≤ e .x1 ⌝ }
+    ensures { λ f. ⌜ Rising steep e f ⌝ }
 {
     Frame {
-        l: x1 - x0,
-        s: numbers::distance(y0, y1),
+        l: e.x1 - e.x0,
+        s: numbers::distance(e.y0, e.y1),
         steep,
-        falls: y1 < y0,
-        x: x0,
-        y: y0,
+        falls: e.y1 < e.y0,
+        x: e.x0,
+        y: e.y0,
     }
 }
 
 // The frame of a line. Equal spans: x counts as the longer.
 pub fn frame_of(line: shapes::Line) -> Frame
     requires { ⌜ shapeRefusal (asShape line) ≡ 0 ⌝ }
-    ensures { λ r. ⌜ Framed line r ⌝ }
+    ensures { λ f. ⌜ Framed line f ⌝ }
 {
     let e = shapes::ends_of(line);
-    if numbers::distance(e.x0, e.x1) < numbers::distance(e.y0, e.y1) {
-        if e.y0 <= e.y1 {
-            return rising_frame(true, e.y0, e.x0, e.y1, e.x1);
-        }
-        return rising_frame(true, e.y1, e.x1, e.y0, e.x0);
-    }
-    if e.x0 <= e.x1 {
-        return rising_frame(false, e.x0, e.y0, e.x1, e.y1);
-    }
-    rising_frame(false, e.x1, e.y1, e.x0, e.y0)
+    let steep = numbers::distance(e.x0, e.x1) < numbers::distance(e.y0, e.y1);
+    rising_frame(steep, ordered(exchanged(steep, e)))
 }
 
 // a or b.

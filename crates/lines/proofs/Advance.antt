@@ -8,6 +8,7 @@ use native.Mathlib.Omega.{arith}
 use lib.Arith.{digits-div, digits-mod}
 use lib.Dec.{leb}
 use borrow.Author.Tests.{le-leb, lt-leb}
+use Rattle.numbers.specs.inner.Offset.{origin}
 use Rattle.numbers.proofs.Order.{lt-or-le}
 use Rattle.coverage.specs.Line.{rowOf, restOf}
 use Rattle.coverage.specs.declared.line.Frame.{Frame}
@@ -46,11 +47,11 @@ module _ (l s i : ℕ) (long : 0 < l) (short : s ≤ l) where
 byte-next : (f : Frame) (lay : Layout) (p g : ℕ) → byteAt f lay (p + 1) g ≡ byteAt f lay p g + lay .along
 byte-next f lay p g = omega arith
 
-pub advance : (f : Frame) (lay : Layout) (p k g r k′ g′ r′ : ℕ) → 0 < f .l → f .s ≤ f .l → f .l ≤ 8191 → f .x ≤ p + 4096 → p + 4096 < f .x + f .l → lay .falls ≡ f .falls
+pub advance : (f : Frame) (lay : Layout) (p k g r k′ g′ r′ : ℕ) → 0 < f .l → f .s ≤ f .l → f .l ≤ 8191 → f .x ≤ p + origin → p + origin < f .x + f .l → lay .falls ≡ f .falls
     → At f lay p k g r → Advanced lay (2 * f .l) (2 * f .s) k g r k′ g′ r′ → At f lay (p + 1) k′ g′ r′
 advance f lay p k g r k′ g′ r′ long short most first last falls-is at to =
-    let i : ℕ = p + 4096 - f .x in
-    let e : p + 1 + 4096 - f .x ≡ i + 1 = omega arith in
+    let i : ℕ = p + origin - f .x in
+    let e : p + 1 + origin - f .x ≡ i + 1 = omega arith in
     let n = next-column (f .l) (f .s) i long short in
     let z : leb (2 * f .l) (r + 2 * f .s) ≡ leb (2 * f .l) (restOf (f .l) (f .s) i + 2 * f .s) = ap (λ (u : ℕ). leb (2 * f .l) (u + 2 * f .s)) (at .r-is) in
     let q-most = row-le (f .l) (f .s) i short (omega arith) in
@@ -78,14 +79,14 @@ row-most : (falls : Bool) (y g : ℕ) → y ≤ 8191 → g ≤ 32766 → cond fa
 row-most true y g h k = omega arith
 row-most false y g h k = omega arith
 
-byte-most : (falls : Bool) (p y g a b : ℕ) → p ≤ 1024 → y ≤ 8191 → g ≤ 32766 → a ≤ 1024 → b ≤ 1024 → (p + 4096) * a + cond falls (y + 32767 - g) (y + g) * b ≤ 134217728
+byte-most : (falls : Bool) (p y g a b : ℕ) → p ≤ 1024 → y ≤ 8191 → g ≤ 32766 → a ≤ 1024 → b ≤ 1024 → (p + origin) * a + cond falls (y + 32767 - g) (y + g) * b ≤ 134217728
 byte-most falls p y g a b hp hy hg ha hb =
-    omega (arith, mul-le-mul {n₁ = p + 4096} {m₁ = a} {n₂ = 5120} {m₂ = 1024} (omega arith) ha, mul-le-mul {m₁ = b} {m₂ = 1024} (row-most falls y g hy hg) hb)
+    omega (arith, mul-le-mul {n₁ = p + origin} {m₁ = a} {n₂ = 5120} {m₂ = 1024} (omega arith) ha, mul-le-mul {m₁ = b} {m₂ = 1024} (row-most falls y g hy hg) hb)
 
 module _ (c : View) (n : Line) (f : Frame) (lay : Layout) (size p k g r : ℕ) (w : Lawful c size) (fr : Framed n f) (d : Laid c f lay)
-    (from : alongFrom c f ≤ p) (end : p < alongEnd c f) (first : f .x ≤ p + 4096) (last : p + 4096 < f .x + f .l) (at : At f lay p k g r) where
-  small : rowOf (f .l) (f .s) (p + 4096 - f .x) ≤ f .l
-  small = row-le (f .l) (f .s) (p + 4096 - f .x) (fr .short) (omega arith)
+    (from : alongFrom c f ≤ p) (end : p < alongEnd c f) (first : f .x ≤ p + origin) (last : p + origin < f .x + f .l) (at : At f lay p k g r) where
+  small : rowOf (f .l) (f .s) (p + origin - f .x) ≤ f .l
+  small = row-le (f .l) (f .s) (p + origin - f .x) (fr .short) (omega arith)
 
   pub g-least : 0 < g
   g-least = omega (arith, at .g-is)
@@ -94,7 +95,7 @@ module _ (c : View) (n : Line) (f : Frame) (lay : Layout) (size p k g r : ℕ) (
   g-most = omega (arith, at .g-is, small, fr .right)
 
   pub k-least : lay .across ≤ k
-  k-least = rw (at .k-is) (byte-least (f .falls) (f .y) g ((p + 4096) * lay .along) (lay .across) g-least (omega (arith, g-most)))
+  k-least = rw (at .k-is) (byte-least (f .falls) (f .y) g ((p + origin) * lay .along) (lay .across) g-least (omega (arith, g-most)))
 
   pub k-most : k ≤ 134217728
   k-most = rw (at .k-is) (byte-most (f .falls) p (f .y) g (lay .along) (lay .across) (along-most c f size p w (omega arith)) (fr .high) (omega (arith, g-most)) (layout-le c f lay size w d .0) (layout-le c f lay size w d .1))

@@ -9,10 +9,11 @@ use lib.Dec.{leb, eqb}
 use lib.IntN.{subℕ}
 use lib.ListN.{length}
 use borrow.Author.Tests.{eq-eqb, ne-eqb, le-leb, lt-leb}
+use Rattle.numbers.specs.inner.Offset.{origin}
 use Rattle.numbers.proofs.Order.{lt-or-le, eq-or-ne}
 use Rattle.shapes.specs.declared.Line.{Line}
 use Rattle.coverage.specs.Line.{rowOf, restOf}
-use Rattle.coverage.specs.inner.Rows.{exactRows, approxRows, atRow}
+use Rattle.coverage.specs.inner.Rows.{rowsOf, atRow}
 use Rattle.coverage.specs.inner.Frame.{Framed}
 use Rattle.coverage.specs.declared.line.Frame.{Frame}
 use Rattle.coverage.specs.declared.line.Rows.{Rows}
@@ -51,9 +52,9 @@ module _ (f : Frame) (lay : Layout) (falls-is : lay .falls ≡ f .falls) (p g : 
   raised-byte = rw falls-is (go (f .falls))
     where
       go : (t : Bool)
-          → cond t ((p + 4096) * lay .along + cond t (f .y + 32767 - g) (f .y + g) * lay .across - lay .across)
-          ((p + 4096) * lay .along + cond t (f .y + 32767 - g) (f .y + g) * lay .across + lay .across)
-          ≡ (p + 4096) * lay .along + cond t (f .y + 32767 - (g + 1)) (f .y + (g + 1)) * lay .across
+          → cond t ((p + origin) * lay .along + cond t (f .y + 32767 - g) (f .y + g) * lay .across - lay .across)
+          ((p + origin) * lay .along + cond t (f .y + 32767 - g) (f .y + g) * lay .across + lay .across)
+          ≡ (p + origin) * lay .along + cond t (f .y + 32767 - (g + 1)) (f .y + (g + 1)) * lay .across
       go true = let e : f .y + 32767 - g ≡ f .y + 32767 - (g + 1) + 1 = omega arith in rw e (omega arith)
       go false = omega arith
 
@@ -64,23 +65,23 @@ module _ (f : Frame) (lay : Layout) (falls-is : lay .falls ≡ f .falls) (p g : 
       e = omega arith
 
       go : (t : Bool)
-          → cond t ((p + 4096) * lay .along + cond t (f .y + 32767 - g) (f .y + g) * lay .across + lay .across)
-          ((p + 4096) * lay .along + cond t (f .y + 32767 - g) (f .y + g) * lay .across - lay .across)
-          ≡ (p + 4096) * lay .along + cond t (f .y + 32767 - (g - 1)) (f .y + (g - 1)) * lay .across
+          → cond t ((p + origin) * lay .along + cond t (f .y + 32767 - g) (f .y + g) * lay .across + lay .across)
+          ((p + origin) * lay .along + cond t (f .y + 32767 - g) (f .y + g) * lay .across - lay .across)
+          ≡ (p + origin) * lay .along + cond t (f .y + 32767 - (g - 1)) (f .y + (g - 1)) * lay .across
       go true = let e : f .y + 32767 - (g - 1) ≡ f .y + 32767 - g + 1 = omega arith in rw e (omega arith)
       go false = let e : f .y + g ≡ f .y + (g - 1) + 1 = omega arith in rw e (omega arith)
 
 -- ---- column p
 module _ (c : View) (n : Line) (f : Frame) (lay : Layout) (size p : ℕ) (w : Lawful c size) (g : Framed n f) (d : Laid c f lay)
-    (from : alongFrom c f ≤ p) (end : p < alongEnd c f) (first : f .x ≤ p + 4096) (last : p + 4096 < f .x + f .l) where
+    (from : alongFrom c f ≤ p) (end : p < alongEnd c f) (first : f .x ≤ p + origin) (last : p + origin < f .x + f .l) where
   abbrev i : ℕ
-  i = p + 4096 - f .x
+  i = p + origin - f .x
 
   abbrev q : ℕ
   q = rowOf (f .l) (f .s) i
 
   abbrev rows : Rows
-  rows = cond (n .exact) (exactRows (f .l) (f .s) (restOf (f .l) (f .s) i)) (approxRows (f .l) (f .s) (restOf (f .l) (f .s) i))
+  rows = rowsOf (n .exact) (f .l) (f .s) (restOf (f .l) (f .s) i)
 
   abbrev G : ℕ
   G = 16384 + q
@@ -88,7 +89,7 @@ module _ (c : View) (n : Line) (f : Frame) (lay : Layout) (size p : ℕ) (w : La
   -- a pixel of the column has what the closed rows say
   value : (x y : ℕ) → cond (f .steep) y x ≡ p → x ≤ 4095 → y ≤ 4095 → lineOn n x y ≡ atRow rows (subℕ (rowAt f x y) G)
   value x y e hx hy =
-      subst (λ (a : ℕ). lineOn n x y ≡ atRow (cond (n .exact) (exactRows (f .l) (f .s) (restOf (f .l) (f .s) (a + 4096 - f .x))) (approxRows (f .l) (f .s) (restOf (f .l) (f .s) (a + 4096 - f .x)))) (subℕ (rowAt f x y) (16384 + rowOf (f .l) (f .s) (a + 4096 - f .x)))) e
+      subst (λ (a : ℕ). lineOn n x y ≡ atRow (rowsOf (n .exact) (f .l) (f .s) (restOf (f .l) (f .s) (a + origin - f .x))) (subℕ (rowAt f x y) (16384 + rowOf (f .l) (f .s) (a + origin - f .x)))) e
       (line-inside g x y hx hy (rw e first) (rw e last))
 
   abbrev column : ℕ → ℕ → ℕ

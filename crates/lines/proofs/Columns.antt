@@ -6,13 +6,14 @@ use Prim.Native.Nat.{ℕ, zero, suc, _+_, _*_, _^_, _≤_, _<_}
 use native.Mathlib.Nat.{mul-le-mul, mul-pos}
 use native.Mathlib.Omega.{arith}
 use lib.ListN.{length}
+use Rattle.numbers.specs.inner.Offset.{origin}
 use Rattle.shapes.specs.declared.Line.{Line}
-use Rattle.coverage.specs.Line.{exactWhole, approxWhole, restOf}
-use Rattle.coverage.specs.inner.Rows.{cutExcess, rowsOf, wholeOf}
+use Rattle.coverage.specs.Line.{exactWhole, approxWhole}
+use Rattle.coverage.specs.inner.Rows.{rowsOf, wholeOf}
 use Rattle.coverage.specs.inner.Frame.{Framed}
 use Rattle.coverage.specs.declared.line.Frame.{Frame}
 use Rattle.coverage.specs.declared.line.Rows.{Rows}
-use Rattle.coverage.proofs.Column.{Filled, exact-filled, approx-filled}
+use Rattle.coverage.proofs.Column.{Filled}
 use Rattle.coverage.proofs.Pixel.{whole-drawn}
 use Rattle.page.specs.inner.Ink.{inkOf, Coverage}
 use Rattle.page.specs.inner.Paint.{Lawful, Drawn}
@@ -45,10 +46,6 @@ pub record Covers (c : Rows) (d : ℕ) : Type 0 where
   pub middle : Coverage (c .middle) d
   pub lower : Coverage (c .lower) d
 
-pub rows-filled : (exact : Bool) (l s i : ℕ) → 0 < l → s ≤ l → Filled (cutExcess l s (restOf l s i)) (wholeOf exact l s) (rowsOf exact l s (restOf l s i))
-rows-filled true l s i p h = exact-filled l s i p h
-rows-filled false l s i p h = approx-filled l s i p h
-
 pub rows-cover : (t l s : ℕ) (exact : Bool) (c : Rows) → 0 < l → s ≤ l → l ≤ 8191 → Filled t (wholeOf exact l s) c → Covers c (wholeOf exact l s)
 rows-cover t l s exact c p h k e =
     let w = whole-fits exact l s p h k in
@@ -60,7 +57,7 @@ rows-cover t l s exact c p h k e =
 
 -- ---- one column
 module _ (c : View) (n : Line) (f : Frame) (lay : Layout) (size p k g r level d : ℕ) (rows : Rows) (w : Lawful c size) (fr : Framed n f) (la : Laid c f lay)
-    (low : alongFrom c f ≤ p) (end : p < alongEnd c f) (first : f .x ≤ p + 4096) (last : p + 4096 < f .x + f .l)
+    (low : alongFrom c f ≤ p) (end : p < alongEnd c f) (first : f .x ≤ p + origin) (last : p + origin < f .x + f .l)
     (at : At f lay p k g r) (rows-is : rows ≡ rowsOf (n .exact) (f .l) (f .s) r) (d-is : d ≡ wholeOf (n .exact) (f .l) (f .s)) where
   pub one-column : (l : List ℕ) → length l ≡ size
       → Drawn (c .w) (c .h) (lineInk n level) (strip c f p (p + 1) (lineOn n)) l (columned lay (inkOf level d) rows k g l) (columnCount lay rows g)

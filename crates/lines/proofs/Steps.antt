@@ -9,11 +9,12 @@ use native.Mathlib.Omega.{arith}
 use lib.Dec.{leb}
 use lib.ListN.{length, getD, set}
 use borrow.Author.Tests.{le-leb, lt-ltb}
+use Rattle.numbers.specs.inner.Offset.{origin}
 use Rattle.coverage.specs.inner.Rows.{rowsOf, cutExcess}
 use Rattle.coverage.specs.declared.line.Frame.{Frame}
 use Rattle.coverage.specs.declared.line.Rows.{Rows}
 use Rattle.coverage.proofs.Closed.{rest-lt}
-use Rattle.coverage.proofs.Column.{Filled}
+use Rattle.coverage.proofs.Column.{Filled, filled as rows-filled}
 use Rattle.page.specs.inner.Ink.{inkOf}
 use Rattle.page.specs.Blend.{blend}
 use Rattle.page.specs.inner.Paint.{touch}
@@ -24,7 +25,7 @@ use Rattle.lines.specs.declared.step.Step.{Step}
 use Rattle.lines.specs.declared.step.Stroke.{Stroke}
 use Rattle.lines.proofs.Advance.{advance, reachable, k-most}
 use Rattle.lines.proofs.Dots.{spotted-blend}
-use Rattle.lines.proofs.Columns.{Covers, rows-filled, rows-cover, one-column, layout-le, along-most}
+use Rattle.lines.proofs.Columns.{Covers, rows-cover, one-column, layout-le, along-most}
 
 module _ {s : Stroke} {size : ℕ} {at : Step} (here : Steppable s at size) where
   ready : Prepared s size
@@ -42,11 +43,11 @@ module _ {s : Stroke} {size : ℕ} {at : Step} (here : Steppable s at size) wher
   end : at .p < alongEnd (s .view) f
   end = omega (arith, here .within .right)
 
-  last : at .p + 4096 < f .x + f .l
+  last : at .p + origin < f .x + f .l
   last = omega (arith, here .within .last)
 
   pub rest-less : at .r < 2 * f .l
-  rest-less = rw (stand .is .r-is) (rest-lt (f .l) (f .s) (at .p + 4096 - f .x) (ready .framed .long))
+  rest-less = rw (stand .is .r-is) (rest-lt (f .l) (f .s) (at .p + origin - f .x) (ready .framed .long))
 
   pub reaches : Reachable lay (at .k) (at .g) size
   reaches =
@@ -57,7 +58,7 @@ module _ {s : Stroke} {size : ℕ} {at : Step} (here : Steppable s at size) wher
   rowsHere = rowsOf (s .line .exact) (f .l) (f .s) (at .r)
 
   filled : Filled (cutExcess (f .l) (f .s) (at .r)) (s .d) rowsHere
-  filled = rw (ready .d-is, stand .is .r-is) (rows-filled (s .line .exact) (f .l) (f .s) (at .p + 4096 - f .x) (ready .framed .long) (ready .framed .short))
+  filled = rw (ready .d-is, stand .is .r-is) (rows-filled (s .line .exact) (f .l) (f .s) (at .p + origin - f .x) (ready .framed .long) (ready .framed .short))
 
   pub covers : Covers rowsHere (s .d)
   covers =

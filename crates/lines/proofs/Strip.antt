@@ -5,17 +5,17 @@ use mathlib.Core.Logic.{_⊎_, inl, inr, ⊎-elim}
 use Prim.Native.Nat.{ℕ, _+_, _-_, _≤_, _<_, max, min}
 use native.Mathlib.Omega.{arith}
 use lib.IntN.{pos, subℕ}
-use Rattle.numbers.specs.inner.Offset.{offsetOf}
+use Rattle.numbers.specs.inner.Offset.{origin, offsetOf}
 use Rattle.numbers.proofs.Order.{lt-or-le}
 use Rattle.numbers.proofs.Integer.{sub-same}
 use Rattle.numbers.proofs.Coordinate.{InRange, in-range, pixel-in, pixel-offset}
 use Rattle.shapes.specs.declared.Line.{Line}
 use Rattle.coverage.specs.Line.{rowOf, restOf}
-use Rattle.coverage.specs.inner.Rows.{exactRows, approxRows, atRow}
+use Rattle.coverage.specs.inner.Rows.{rowsOf, atRow}
 use Rattle.coverage.specs.inner.Frame.{Framed}
 use Rattle.coverage.specs.declared.line.Frame.{Frame}
 use Rattle.coverage.specs.declared.line.Rows.{Rows}
-use Rattle.coverage.proofs.Pixel.{drawn-left, drawn-right, drawn-inside, across-le}
+use Rattle.coverage.proofs.Pixel.{drawn-left, drawn-right, drawn-inside}
 use Rattle.page.specs.inner.Paint.{clipped, inView, Lawful}
 use Rattle.page.specs.declared.View.{View}
 use Rattle.page.proofs.Clip.{Inside, Outside, in-or-out, left-of, right-of, above, below, clip-in, clip-out, clip-shrink, clip-columns, clip-rows, Join}
@@ -105,61 +105,61 @@ module _ {n : Line} {f : Frame} (g : Framed n f) (x y : ℕ) (hx : x ≤ 4095) (
   abbrev a : ℕ
   a = cond (f .steep) y x
 
-  along-offset : cond (f .steep) (offsetOf (pos y)) (offsetOf (pos x)) ≡ a + 4096
+  along-offset : cond (f .steep) (offsetOf (pos y)) (offsetOf (pos x)) ≡ a + origin
   along-offset = by (f .steep)
     where
-      by : (t : Bool) → cond t (offsetOf (pos y)) (offsetOf (pos x)) ≡ cond t y x + 4096
+      by : (t : Bool) → cond t (offsetOf (pos y)) (offsetOf (pos x)) ≡ cond t y x + origin
       by true = pixel-offset y hy
       by false = pixel-offset x hx
 
-  across-offset : cond (f .steep) (offsetOf (pos x)) (offsetOf (pos y)) ≡ cond (f .steep) x y + 4096
+  across-offset : cond (f .steep) (offsetOf (pos x)) (offsetOf (pos y)) ≡ cond (f .steep) x y + origin
   across-offset = by (f .steep)
     where
-      by : (t : Bool) → cond t (offsetOf (pos x)) (offsetOf (pos y)) ≡ cond t x y + 4096
+      by : (t : Bool) → cond t (offsetOf (pos x)) (offsetOf (pos y)) ≡ cond t x y + origin
       by true = pixel-offset x hx
       by false = pixel-offset y hy
 
   -- 0 left and right of its columns
-  pub line-left : a + 4096 < f .x → lineOn n x y ≡ 0
+  pub line-left : a + origin < f .x → lineOn n x y ≡ 0
   line-left h = sym (drawn-left g px py (rw along-offset h))
 
-  pub line-right : f .x + f .l ≤ a + 4096 → lineOn n x y ≡ 0
+  pub line-right : f .x + f .l ≤ a + origin → lineOn n x y ≡ 0
   line-right h = sym (drawn-right g px py (rw along-offset h))
 
   -- rows counted from 16,384 instead of 8,192
-  row-shift : rowAt f x y ≡ cond (f .falls) (f .y + 8191 - (cond (f .steep) x y + 4096)) (cond (f .steep) x y + 4096 + 8192 - f .y) + 8192
+  row-shift : rowAt f x y ≡ cond (f .falls) (f .y + 8191 - (cond (f .steep) x y + origin)) (cond (f .steep) x y + origin + 8192 - f .y) + 8192
   row-shift = by (f .falls) (cond (f .steep) x y) (most (f .steep))
     where
       most : (t : Bool) → cond t x y ≤ 4095
       most true = hx
       most false = hy
 
-      by : (t : Bool) (b : ℕ) → b ≤ 4095 → cond t (f .y + 12287 - b) (b + 20480 - f .y) ≡ cond t (f .y + 8191 - (b + 4096)) (b + 4096 + 8192 - f .y) + 8192
+      by : (t : Bool) (b : ℕ) → b ≤ 4095 → cond t (f .y + 12287 - b) (b + 20480 - f .y) ≡ cond t (f .y + 8191 - (b + origin)) (b + origin + 8192 - f .y) + 8192
       by true b h = omega arith
       by false b h = omega (arith, g .high)
 
   -- in its columns, what the closed rows have
   abbrev i : ℕ
-  i = a + 4096 - f .x
+  i = a + origin - f .x
 
   abbrev rows : Rows
-  rows = cond (n .exact) (exactRows (f .l) (f .s) (restOf (f .l) (f .s) i)) (approxRows (f .l) (f .s) (restOf (f .l) (f .s) i))
+  rows = rowsOf (n .exact) (f .l) (f .s) (restOf (f .l) (f .s) i)
 
-  pub line-inside : f .x ≤ a + 4096 → a + 4096 < f .x + f .l
+  pub line-inside : f .x ≤ a + origin → a + origin < f .x + f .l
       → lineOn n x y
       ≡ atRow rows (subℕ (rowAt f x y) (16384 + rowOf (f .l) (f .s) i))
   line-inside h k =
       let q : ℕ = rowOf (f .l) (f .s) i in
-      let low : ℕ = cond (f .falls) (f .y + 8191 - (cond (f .steep) x y + 4096)) (cond (f .steep) x y + 4096 + 8192 - f .y) in
-      let e = drawn-inside g px py (across-le g px py) (rw along-offset h) (rw along-offset k) in
+      let low : ℕ = cond (f .falls) (f .y + 8191 - (cond (f .steep) x y + origin)) (cond (f .steep) x y + origin + 8192 - f .y) in
+      let e = drawn-inside g px py (rw along-offset h) (rw along-offset k) in
       sym (rw (along-offset, across-offset) at e) ∙ ap (atRow rows) (sub-same low (8192 + q) (rowAt f x y) (16384 + q) (omega (arith, row-shift)))
 
 -- ---- a line lies in its own columns
 
 -- an inside pixel left of the first common column, or from the last on, is off the line
 pub line-beyond : (c : View) (n : Line) (f : Frame) (size : ℕ) → Lawful c size → Framed n f → (from end : ℕ)
-    → from ≡ max (alongFrom c f) (f .x - 4096)
-    → end ≡ min (alongEnd c f) (f .x + f .l - 4096)
+    → from ≡ max (alongFrom c f) (f .x - origin)
+    → end ≡ min (alongEnd c f) (f .x + f .l - origin)
     → (x y : ℕ)
     → Inside (c .x0) (c .y0) (c .x1) (c .y1) x y
     → (cond (f .steep) y x < from) ⊎ (end ≤ cond (f .steep) y x)

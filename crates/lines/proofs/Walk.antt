@@ -7,6 +7,7 @@ use Prim.Native.Nat.{ℕ, _+_, _-_, _≤_, _<_}
 use native.Mathlib.Omega.{arith}
 use lib.Dec.{leb, ltb}
 use borrow.Author.Tests.{le-leb, lt-ltb, leb-true, ltb-true}
+use Rattle.numbers.specs.inner.Offset.{origin}
 use Rattle.numbers.proofs.Order.{lt-or-le}
 use Rattle.page.specs.inner.Paint.{Drawn}
 use Rattle.page.proofs.Drawn.{drawn-join}
@@ -72,6 +73,6 @@ extended-whole {s} {size} {e} {from} {to} ready within zero x most past =
 -- where a walk begins
 pub standing-first : (s : Stroke) (at : Step) (p : ℕ) → At (s .frame) (s .layout) p (at .k) (at .g) (at .r) → at .p ≡ p → at .touched ≡ 0
     → alongFrom (s .view) (s .frame) ≤ p
-    → s .frame .x ≤ p + 4096
+    → s .frame .x ≤ p + origin
     → Standing s at
 standing-first s at p is p-is zero left first = record { is = rw p-is is; left = omega arith; first = omega arith; few = omega arith }

@@ -6,6 +6,9 @@ ghost use mathlib.Core.Path.{_≡_};
 ghost use Prim.Native.Nat.{_+_, _^_, _≤_, _<_};
 ghost use Rattle.lines.specs.inner.Layout.{Laid, shown, raised, lowered};
 
+// The offset of coordinate 0, as an index.
+pub const ORIGIN: usize = numbers::ORIGIN as usize;
+
 // How a line's frame lies on a page: the bytes from one column to the next and from one row to the next, whether rows are mirrored,
 // the clip's rows, and what is added to a byte's index.
 pub struct Layout {
@@ -40,7 +43,7 @@ pub fn layout_of(view: View, f: Frame) -> Layout
         falls: f.falls,
         low: either(f.falls, y + 12288 - end, from + 20480 - y),
         high: either(f.falls, y + 12288 - from, end + 20480 - y),
-        origin: 4096 * along + 20480 * across,
+        origin: ORIGIN * along + 20480 * across,
     }
 }
 

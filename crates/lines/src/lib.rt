@@ -11,6 +11,7 @@ ghost use mathlib.Core.Path.{_≡_};
 ghost use Prim.Native.Nat.{_+_, _-_, _≤_, _<_, min, max};
 ghost use lib.Dec.{leb, ltb};
 ghost use lib.ListN.{length};
+ghost use Rattle.numbers.specs.inner.Offset.{origin};
 ghost use Rattle.shapes.specs.Limits.{shapeRefusal};
 ghost use Rattle.shapes.specs.declared.Shape.the-variants.{Line as asShape};
 ghost use Rattle.coverage.specs.inner.Frame.{Framed};
@@ -69,7 +70,7 @@ pub fn draw_columns(
     end: usize,
 ) -> u64
     requires { ⌜ Lawful view (length (now page)) × Framed line f ⌝ }
-    requires { ⌜ (alongFrom view f ≤ from) × (from < end) × (end ≤ alongEnd view f) × (f .x ≤ from + 4096) × (end + 4096 ≤ f .x + f .l) ⌝ }
+    requires { ⌜ (alongFrom view f ≤ from) × (from < end) × (end ≤ alongEnd view f) × (f .x ≤ from + origin) × (end + origin ≤ f .x + f .l) ⌝ }
     ensures { λ t. ⌜ Drawn (view .w) (view .h) (lineInk line level) (strip view f from end (lineOn line)) (now (page .entry)) (now (page .exit)) t ⌝ }
 {
     let lay = layout::layout_of(view, f);
@@ -90,35 +91,16 @@ pub fn draw_columns(
     upper.touched
 }
 
-fn lesser(a: usize, b: usize) -> usize
-    ensures { λ r. ⌜ r ≡ min a b ⌝ }
-{
-    if a <= b { a } else { b }
-}
-
-fn greater(a: usize, b: usize) -> usize
-    ensures { λ r. ⌜ r ≡ max a b ⌝ }
-{
-    if a <= b { b } else { a }
-}
-
-// a less b, brought up to 0.
-fn less(a: usize, b: usize) -> usize
-    ensures { λ r. ⌜ r ≡ a - b ⌝ }
-{
-    if b <= a { a - b } else { 0 }
-}
-
 // The columns of a line that lie within the clip's.
 fn columns_of(view: View, f: Frame) -> Span
     requires { ⌜ f .x + f .l ≤ 8191 ⌝ }
-    ensures { λ r. ⌜ (r .from ≡ max (alongFrom view f) (f .x - 4096)) × (r .end ≡ min (alongEnd view f) (f .x + f .l - 4096)) ⌝ }
+    ensures { λ r. ⌜ (r .from ≡ max (alongFrom view f) (f .x - origin)) × (r .end ≡ min (alongEnd view f) (f .x + f .l - origin)) ⌝ }
 {
     let first = layout::either(f.steep, view.y0, view.x0);
     let last = layout::either(f.steep, view.y1, view.x1);
     Span {
-        from: greater(first, less(f.x as usize, 4096)),
-        end: lesser(last, less((f.x + f.l) as usize, 4096)),
+        from: numbers::greater(first as u64, numbers::less(f.x, numbers::ORIGIN)) as usize,
+        end: numbers::lesser(last as u64, numbers::less(f.x + f.l, numbers::ORIGIN)) as usize,
     }
 }
 

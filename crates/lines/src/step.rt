@@ -8,6 +8,7 @@ ghost use mathlib.Core.Bool.{true};
 ghost use mathlib.Core.Path.{_≡_};
 ghost use Prim.Native.Nat.{_+_, _*_, _-_, _^_, _≤_, _<_};
 ghost use lib.ListN.{length};
+ghost use Rattle.numbers.specs.inner.Offset.{origin};
 ghost use Rattle.page.specs.inner.Ink.{inkOf, Coverage, Reciprocal};
 ghost use Rattle.lines.specs.inner.Layout.{spotted, counted, columned, columnCount, Reachable, At, Advanced};
 ghost use Rattle.lines.specs.inner.Stroke.{Steppable, Inner, Stepped};
@@ -35,16 +36,16 @@ pub struct Step {
 
 // Where a walk that begins at column p stands.
 pub fn first_step(lay: Layout, f: Frame, p: usize) -> Step
-    requires { ⌜ (f .l ≤ 8191) × (f .s ≤ f .l) × (f .x ≤ p + 4096) × (p + 4096 < f .x + f .l) × (p ≤ 1024) × (f .y ≤ 8191) × (lay .along ≤ 1024) × (lay .across ≤ 1024) × (lay .falls ≡ f .falls) ⌝ }
+    requires { ⌜ (f .l ≤ 8191) × (f .s ≤ f .l) × (f .x ≤ p + origin) × (p + origin < f .x + f .l) × (p ≤ 1024) × (f .y ≤ 8191) × (lay .along ≤ 1024) × (lay .across ≤ 1024) × (lay .falls ≡ f .falls) ⌝ }
     ensures { λ at. ⌜ At f lay p (at .k) (at .g) (at .r) × (at .p ≡ p) × (at .touched ≡ 0) ⌝ }
 {
-    let c = coverage::line::crossing_at(f.l, f.s, (p as u64) + 4096 - f.x);
+    let c = coverage::line::crossing_at(f.l, f.s, (p as u64) + numbers::ORIGIN - f.x);
     let g = 16384 + (c.q as usize);
     let y = f.y as usize;
     let row = layout::either(lay.falls, y + 32767 - g, y + g);
     Step {
         p,
-        k: (p + 4096) * lay.along + row * lay.across,
+        k: (p + layout::ORIGIN) * lay.along + row * lay.across,
         g,
         r: c.r,
         touched: 0,

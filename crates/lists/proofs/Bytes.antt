@@ -17,7 +17,7 @@ use Rattle.shapes.specs.declared.Setting.the-variants.{Clip as clip, Level as l
 use Rattle.shapes.specs.declared.Record.{Record}
 use Rattle.shapes.specs.declared.Record.the-variants.{End as end, Setting as setting, Shape as shape}
 use Rattle.lists.specs.Format.{kindSize, kindOf, fieldsOf, recordBytes}
-use Rattle.lists.specs.inner.Record.{padded}
+use Rattle.lists.specs.inner.Record.{recordMost, padded}
 use Rattle.lists.specs.Write.{putAt}
 
 -- a local gives back the coordinate that it was given
@@ -48,7 +48,7 @@ unfolding kindSize
 unknown-kind k h =
     simp (ne-eqb k 0 (λ e. omega arith), ne-eqb k 1 (λ e. omega arith), ne-eqb k 2 (λ e. omega arith), ne-eqb k 3 (λ e. omega arith), ne-eqb k 4 (λ e. omega arith), ne-eqb k 5 (λ e. omega arith), ne-eqb k 6 (λ e. omega arith))
 
-pub record-most : (r : Record) → length (recordBytes r) ≤ 10
+pub record-most : (r : Record) → length (recordBytes r) ≤ recordMost
 unfolding fieldsOf
 record-most end = omega arith
 record-most (setting (clip c)) = omega arith
@@ -59,4 +59,4 @@ record-most (shape (ring g)) = omega arith
 
 -- the first bytes of an array put into a list
 pub put-padded : (l : List ℕ) (place : ℕ) (bs : List ℕ) → paste l place (padded bs) (length bs) ≡ putAt place bs l
-put-padded l place bs = rw (take-append-seam bs (replicate (10 - length bs) 0))
+put-padded l place bs = rw (take-append-seam bs (replicate (recordMost - length bs) 0))

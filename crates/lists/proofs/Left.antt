@@ -12,7 +12,7 @@ use Rattle.shapes.specs.declared.Basis.{Basis}
 use Rattle.shapes.specs.declared.Record.{Record}
 use Rattle.shapes.specs.declared.Setting.the-variants.{Clip as clip, Level as level}
 use Rattle.shapes.specs.declared.Record.the-variants.{End as end, Setting as setting, Shape as shape}
-use Rattle.lists.specs.Format.{headerSize, kindSize, kindAt, sizeAt, decoded, recordAt}
+use Rattle.lists.specs.Format.{listMost, headerSize, kindSize, kindAt, sizeAt, decoded, recordAt}
 use Rattle.lists.specs.inner.Record.{Whole}
 use Rattle.lists.proofs.Refusals.{Readable}
 use Rattle.lists.proofs.Accepted.{Holds, holds, holds-readable, holds-end, Next, holds-next}
@@ -43,7 +43,7 @@ end-record s z = rw z
 pub record Left (b : Basis) (list : List ℕ) (place : ℕ) (f : Settings) (records : List Record) : Type 0 where
   pub holds : Holds b (drop place list) records
   pub clip : clipRefusal (b .w) (b .h) (f .clip) ≡ 0
-  pub most : length list ≤ 65536
+  pub most : length list ≤ listMost
 
 -- at the start all is left
 pub left-start : (b : Basis) (list : List ℕ) → Walkable list b → Left b list headerSize (start b) (recordsIn (listRecords b list))

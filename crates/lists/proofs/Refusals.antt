@@ -7,7 +7,7 @@ use native.Mathlib.Omega.{arith}
 use borrow.Author.Tests.{lt-ltb, ltb-false, eqb-true, eqb-false, not-false}
 use lib.Dec.{ltb, eqb}
 use lib.ListN.{length, drop}
-use Rattle.shapes.specs.Limits.{first, sizeRefusal, shapeRefusal, recordRefusal, offRange, offRadius, refusalsOf}
+use Rattle.shapes.specs.Limits.{first, sizeRefusal, shapeRefusal, recordRefusal, offRange, radiusMost, offRadius, refusalsOf}
 use Rattle.shapes.proofs.Limits.{clear, tried-clear, or-clear}
 use Rattle.shapes.specs.declared.Shape.{Shape}
 use Rattle.shapes.specs.declared.Shape.the-variants.{Line as line, Disc as disc, Ring as ring}
@@ -46,12 +46,12 @@ one-byte-shape (line l) e = tt
 one-byte-shape (disc d) e =
     let range = clear (offRange (disc d)) 6 _ e in
     let radius = clear (offRadius (d .radius)) 9 _ (range .1) in
-    ltb-false _ _ (or-clear (ltb (d .radius) 1) (ltb 255 (d .radius)) (radius .0) .1)
+    ltb-false _ _ (or-clear (ltb (d .radius) 1) (ltb radiusMost (d .radius)) (radius .0) .1)
 one-byte-shape (ring g) e =
     let range = clear (offRange (ring g)) 6 _ e in
     let radius = clear (offRadius (g .radius)) 9 _ (range .1) in
     let width = clear (ltb (g .width) 1 || ltb (g .radius) (g .width)) 10 0 (radius .1) in
-    let r : g .radius ≤ 255 = ltb-false _ _ (or-clear (ltb (g .radius) 1) (ltb 255 (g .radius)) (radius .0) .1) in
+    let r : g .radius ≤ 255 = ltb-false _ _ (or-clear (ltb (g .radius) 1) (ltb radiusMost (g .radius)) (radius .0) .1) in
     let k : g .width ≤ g .radius = ltb-false _ _ (or-clear (ltb (g .width) 1) (ltb (g .radius) (g .width)) (width .0) .1) in
     (r, omega arith)
 
@@ -64,8 +64,8 @@ one-byte b (shape s) e = one-byte-shape s e
 -- ---- the header of a list
 
 pub record Headed (tests : List (Bool × ℕ)) (s : List ℕ) : Type 0 where
-  pub most : length s ≤ 65536
-  pub least : 10 ≤ length s
+  pub most : length s ≤ listMost
+  pub least : headerSize ≤ length s
   pub marked : hasMark s ≡ true
   pub versioned : wordAt s 3 ≡ version
   pub size : sizeRefusal (headerAt s .w) (headerAt s .h) ≡ 0
@@ -74,8 +74,8 @@ pub record Headed (tests : List (Bool × ℕ)) (s : List ℕ) : Type 0 where
 pub headed : (tests : List (Bool × ℕ)) (s : List ℕ) → headerRefusal tests s ≡ 0 → Headed tests s
 unfolding headerRefusal
 headed tests s e =
-    let most = clear (ltb 65536 (length s)) 11 _ e in
-    let least = clear (ltb (length s) 10) 4 _ (most .1) in
+    let most = clear (ltb listMost (length s)) 11 _ e in
+    let least = clear (ltb (length s) headerSize) 4 _ (most .1) in
     let marked = clear (not (hasMark s)) 0 _ (least .1) in
     let versioned = clear (not (eqb (wordAt s 3) version)) 1 _ (marked .1) in
     let size = tried-clear (sizeRefusal (headerAt s .w) (headerAt s .h)) _ (versioned .1) in

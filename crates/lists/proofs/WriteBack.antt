@@ -12,7 +12,7 @@ use Rattle.numbers.specs.Coordinate.{bitsOf, signedOf, wordOf, bytesOf}
 use Rattle.numbers.proofs.Coordinate.{bits-signed, bytes-word}
 use Rattle.shapes.specs.Limits.{sized}
 use Rattle.shapes.specs.declared.Record.{Record}
-use Rattle.lists.specs.Format.{kindSize, kindOf, fieldsOf, headerBytes, recordBytes, wordAt, headerAt, kindAt, sizeAt, decoded, recordAt}
+use Rattle.lists.specs.Format.{listMost, headerSize, kindSize, kindOf, fieldsOf, headerBytes, recordBytes, wordAt, headerAt, kindAt, sizeAt, decoded, recordAt}
 use Rattle.lists.specs.inner.Record.{Whole}
 use Rattle.lists.specs.Read.{readRefusal}
 use Rattle.lists.specs.Write.{putAt, recordWritten, recordList, recordsList, listWritten}
@@ -77,7 +77,7 @@ module _ (s : List ℕ) (b : AllBytes s) where
   pub record-again : Whole s → recordBytes (recordAt s) ≡ take (sizeAt s) s
   record-again p = kind-again (kindAt s) (p .known) refl ∙ sym (take-firsts (sizeAt s) s (p .fits))
 
-  pub header-again : {tests : List (Bool × ℕ)} → Headed tests s → headerBytes (headerAt s) ≡ take 10 s
+  pub header-again : {tests : List (Bool × ℕ)} → Headed tests s → headerBytes (headerAt s) ≡ take headerSize s
   unfolding firsts headerBytes
   header-again p =
       let first = and-both (markAt s 0 && markAt s 1) (markAt s 2) (p .marked) in
@@ -85,7 +85,7 @@ module _ (s : List ℕ) (b : AllBytes s) where
       front (eqb-true _ _ (second .0)) (front (eqb-true _ _ (second .1)) (front (eqb-true _ _ (first .1))
       (ap (λ (v : ℕ). bytesOf v ++ bytesOf (wordAt s 5) ++ bytesOf (wordAt s 7) ++ getD s 9 0 ∷ []) (sym (p .versioned))
       ∙ word-then (b 3) (word-then (b 5) (word-then (b 7) refl)))))
-      ∙ sym (take-firsts 10 s (p .least))
+      ∙ sym (take-firsts headerSize s (p .least))
 
 -- ---- bytes put into a list, one run behind the other
 pub put-put : (l : List ℕ) (place : ℕ) (bs cs : List ℕ) → place + length bs + length cs ≤ length l
@@ -102,8 +102,8 @@ put-put l place bs cs h =
     ∙ ap₂ (λ (x : List ℕ) (k : ℕ). x ++ drop k l) (append-assoc (take place l) bs cs) next
 
 -- ---- the records, one after the other
-module _ (w h : ℕ) (s : List ℕ) (none : readRefusal (sized w h) s ≡ 0) (b : AllBytes s) (m : List ℕ) (place : ℕ) (low : 10 ≤ place)
-    (inside : place + sizeAt s ≤ length m) (most : place + sizeAt s ≤ 65536) where
+module _ (w h : ℕ) (s : List ℕ) (none : readRefusal (sized w h) s ≡ 0) (b : AllBytes s) (m : List ℕ) (place : ℕ) (low : headerSize ≤ place)
+    (inside : place + sizeAt s ≤ length m) (most : place + sizeAt s ≤ listMost) where
   long : length (recordBytes (recordAt s)) ≡ sizeAt s
   long =
       let p = readable (sized w h) s none .whole in
@@ -122,8 +122,8 @@ module _ (w h : ℕ) (s : List ℕ) (none : readRefusal (sized w h) s ≡ 0) (b 
   step-place : recordWritten m place w h (recordAt s) .place ≡ place + sizeAt s
   step-place = ap (λ (r : Written). r .place) (sym (done .0)) ∙ ap (λ (n : ℕ). place + n) long
 
-records-again : {w h : ℕ} {s : List ℕ} {rs : List Record} → Holds (sized w h) s rs → AllBytes s → (m : List ℕ) (place : ℕ) → 10 ≤ place
-    → place + length s ≤ length m → place + length s ≤ 65536 → recordsList m place w h rs ≡ putAt place s m
+records-again : {w h : ℕ} {s : List ℕ} {rs : List Record} → Holds (sized w h) s rs → AllBytes s → (m : List ℕ) (place : ℕ) → headerSize ≤ place
+    → place + length s ≤ length m → place + length s ≤ listMost → recordsList m place w h rs ≡ putAt place s m
 unfolding recordsList
 records-again {w} {h} (last {s} none k all) b m place low inside most =
     step-list w h s none b m place low (omega arith) (omega arith)
@@ -148,16 +148,16 @@ module _ (tests : List (Bool × ℕ)) (l : List ℕ) (rs : List Record) (b : All
   written-again fits =
       let p = headed tests l (list-headed tests l rs e) in
       let done = header-done m place w h (headerAt l) (header-none (length m) (headerAt l) (p .size) (omega (arith, p .least))) in
-      let ten : 10 ≡ 0 + length (take 10 l) = omega (arith, length-take-le 10 l (p .least)) in
-      let rest = length-drop 10 l in
-      let same = put-length m 0 (take 10 l) (omega (arith, p .least)) in
+      let front : headerSize ≡ 0 + length (take headerSize l) = omega (arith, length-take-le headerSize l (p .least)) in
+      let rest = length-drop headerSize l in
+      let same = put-length m 0 (take headerSize l) (omega (arith, p .least)) in
       ap₂ (λ (x : List ℕ) (r : Written). recordsList x (r .place) (r .w) (r .h) rs)
       (sym (done .1) ∙ ap (λ (bs : List ℕ). putAt 0 bs m) (header-again l b p))
       (sym (done .0))
-      ∙ records-again (list-holds tests l rs e) (drop-bytes 10 l b) (putAt 0 (take 10 l) m) 10 (omega arith) (omega (arith, p .least)) (omega (arith, p .least, p .most))
-      ∙ ap (λ (k : ℕ). putAt k (drop 10 l) (putAt 0 (take 10 l) m)) ten
-      ∙ put-put m 0 (take 10 l) (drop 10 l) (omega (arith, p .least))
-      ∙ ap (λ (bs : List ℕ). putAt 0 bs m) (take-append-drop 10 l)
+      ∙ records-again (list-holds tests l rs e) (drop-bytes headerSize l b) (putAt 0 (take headerSize l) m) headerSize (omega arith) (omega (arith, p .least)) (omega (arith, p .least, p .most))
+      ∙ ap (λ (k : ℕ). putAt k (drop headerSize l) (putAt 0 (take headerSize l) m)) front
+      ∙ put-put m 0 (take headerSize l) (drop headerSize l) (omega (arith, p .least))
+      ∙ ap (λ (bs : List ℕ). putAt 0 bs m) (take-append-drop headerSize l)
       ∙ ap (λ (k : ℕ). l ++ drop k m) (zero-add (length l))
 
   -- written into a list of its own length

@@ -13,7 +13,7 @@ use Rattle.numbers.proofs.Order.{lt-or-le}
 use Rattle.shapes.specs.Limits.{sized, sizeRefusal, recordRefusal}
 use Rattle.shapes.specs.declared.Basis.{Basis}
 use Rattle.shapes.specs.declared.Record.{Record}
-use Rattle.lists.specs.Format.{headerBytes, recordBytes}
+use Rattle.lists.specs.Format.{listMost, headerSize, headerBytes, recordBytes}
 use Rattle.lists.specs.Write.{putAt, tooFew, headerWriteRefusal, recordWriteRefusal, headerWritten, headerList, recordWritten, recordList}
 use Rattle.lists.specs.declared.format.Header.{Header}
 use Rattle.lists.specs.declared.write.Written.{Written}
@@ -30,7 +30,7 @@ module _ (l : List ℕ) (place w h : ℕ) where
     header-refused k = rw (e, lt-ltb 0 f k) (refl, refl)
 
   pub header-done : (d : Header) → headerWriteRefusal (length l) d ≡ 0
-      → (record { refusal = 0; place = 10; w = d .w; h = d .h } ≡ headerWritten l place w h d) × (putAt 0 (headerBytes d) l ≡ headerList l d)
+      → (record { refusal = 0; place = headerSize; w = d .w; h = d .h } ≡ headerWritten l place w h d) × (putAt 0 (headerBytes d) l ≡ headerList l d)
   unfolding headerWritten headerList
   header-done d e = rw e (refl, refl)
 
@@ -47,14 +47,14 @@ module _ (l : List ℕ) (place w h : ℕ) where
 
 -- ---- room for what ends at a place
 pub record Room (n place size : ℕ) : Type 0 where
-  pub behind : 10 ≤ place
+  pub behind : headerSize ≤ place
   pub inside : place + size ≤ n
-  pub most : place + size ≤ 65536
+  pub most : place + size ≤ listMost
 
-pub room : (n place size : ℕ) → ltb place 10 || tooFew n (place + size) ≡ false → Room n place size
+pub room : (n place size : ℕ) → ltb place headerSize || tooFew n (place + size) ≡ false → Room n place size
 room n place size e =
-    let both = or-clear (ltb place 10) (tooFew n (place + size)) e in
-    let k : place + size ≤ min n 65536 = ltb-false _ _ (both .1) in
+    let both = or-clear (ltb place headerSize) (tooFew n (place + size)) e in
+    let k : place + size ≤ min n listMost = ltb-false _ _ (both .1) in
     record { behind = ltb-false _ _ (both .0); inside = omega arith; most = omega arith }
 
 -- ---- a record that is written
@@ -68,7 +68,7 @@ unfolding recordWriteRefusal
 writable n place b r e =
     let page = tried-clear (sizeRefusal (b .w) (b .h)) _ e in
     let lawful = tried-clear (recordRefusal b r) _ (page .1) in
-    let last = clear (ltb place 10 || tooFew n (place + length (recordBytes r))) 21 0 (lawful .1) in
+    let last = clear (ltb place headerSize || tooFew n (place + length (recordBytes r))) 21 0 (lawful .1) in
     record { page = page .0; lawful = lawful .0; room = room n place (length (recordBytes r)) (last .0) }
 
 -- a refusal of 0 says that nothing was refused
@@ -84,18 +84,18 @@ written-refusal l place w h r e = go (recordWriteRefusal (length l) place (sized
 pub refusal-none : (n place : ℕ) (b : Basis) (r : Record) → Writable n place b r → recordWriteRefusal n place b r ≡ 0
 unfolding recordWriteRefusal
 refusal-none n place b r p =
-    simp (p .page, p .lawful, le-ltb place 10 (p .room .behind), le-ltb (min n 65536) (place + length (recordBytes r)) (omega (arith, p .room .inside, p .room .most)))
+    simp (p .page, p .lawful, le-ltb place headerSize (p .room .behind), le-ltb (min n listMost) (place + length (recordBytes r)) (omega (arith, p .room .inside, p .room .most)))
 
-pub header-room : (n : ℕ) (d : Header) → headerWriteRefusal n d ≡ 0 → 10 ≤ n
+pub header-room : (n : ℕ) (d : Header) → headerWriteRefusal n d ≡ 0 → headerSize ≤ n
 unfolding headerWriteRefusal
 header-room n d e =
     let size = tried-clear (sizeRefusal (d .w) (d .h)) _ e in
-    let k : 10 ≤ min n 65536 = ltb-false _ _ (clear (tooFew n 10) 21 0 (size .1) .0) in
+    let k : headerSize ≤ min n listMost = ltb-false _ _ (clear (tooFew n headerSize) 21 0 (size .1) .0) in
     omega arith
 
-pub header-none : (n : ℕ) (d : Header) → sizeRefusal (d .w) (d .h) ≡ 0 → 10 ≤ n → headerWriteRefusal n d ≡ 0
+pub header-none : (n : ℕ) (d : Header) → sizeRefusal (d .w) (d .h) ≡ 0 → headerSize ≤ n → headerWriteRefusal n d ≡ 0
 unfolding headerWriteRefusal
-header-none n d size long = simp (size, le-ltb (min n 65536) 10 (omega arith))
+header-none n d size long = simp (size, le-ltb (min n listMost) headerSize (omega arith))
 
 -- ---- a write leaves the list as long as it is
 pub put-length : (l : List ℕ) (place : ℕ) (bs : List ℕ) → place + length bs ≤ length l → length (putAt place bs l) ≡ length l

@@ -4,7 +4,7 @@ ghost use Prim.Native.Nat.{_+_, _≤_};
 ghost use lib.ListN.{length};
 ghost use mathlib.Core.Bool.{cond};
 ghost use mathlib.Core.List.{[], _∷_, _++_};
-ghost use Rattle.lists.specs.Format.{kindSize, words, coordinates, headerBytes, recordBytes, wordAt, coordinateAt, headerAt, basisOf, clipAt, lineAt, discAt, ringAt, recordAt};
+ghost use Rattle.lists.specs.Format.{headerSize, kindSize, words, coordinates, headerBytes, recordBytes, wordAt, coordinateAt, headerAt, basisOf, clipAt, lineAt, discAt, ringAt, recordAt};
 ghost use Rattle.lists.specs.inner.Record.{Whole, padded, OneByte, OneByteRecord};
 use shapes::Basis;
 use shapes::Clip;
@@ -23,6 +23,9 @@ pub const HEADER_SIZE: usize = 10;
 
 // How many bytes a list may have.
 pub const LIST_MOST: usize = 65536;
+
+// How many bytes the array of a record or a header has; each fits.
+pub(crate) const RECORD_MOST: usize = 13;
 
 // What a header tells: W, H and the background.
 pub struct Header {
@@ -130,7 +133,7 @@ pub fn decode(list: &[u8]) -> Record
 
 // The header at the front.
 pub(crate) fn read_header(list: &[u8]) -> Header
-    requires { ⌜ 10 ≤ length (now list) ⌝ }
+    requires { ⌜ headerSize ≤ length (now list) ⌝ }
     ensures { λ r. ⌜ r ≡ headerAt (now (list .entry)) ⌝ }
 {
     Header {
@@ -151,18 +154,18 @@ pub fn basis_of(header: Header) -> Basis
 }
 
 // A kind byte and four words.
-fn four_words(kind: u8, a: u16, b: u16, c: u16, d: u16) -> [u8; 10]
+fn four_words(kind: u8, a: u16, b: u16, c: u16, d: u16) -> [u8; RECORD_MOST]
     ensures { λ r. ⌜ r ≡ padded (kind ∷ words (a ∷ b ∷ c ∷ d ∷ [])) ⌝ }
 {
     let p = numbers::word_bytes(a);
     let q = numbers::word_bytes(b);
     let r = numbers::word_bytes(c);
     let s = numbers::word_bytes(d);
-    [kind, p[0], p[1], q[0], q[1], r[0], r[1], s[0], s[1], 0]
+    [kind, p[0], p[1], q[0], q[1], r[0], r[1], s[0], s[1], 0, 0, 0, 0]
 }
 
 // A kind byte, a centre, a radius and a width.
-fn circle_bytes(kind: u8, x: i16, y: i16, radius: u16, width: u16) -> [u8; 10]
+fn circle_bytes(kind: u8, x: i16, y: i16, radius: u16, width: u16) -> [u8; RECORD_MOST]
     requires { ⌜ (radius ≤ 255) × (width ≤ 255) ⌝ }
     ensures { λ r. ⌜ r ≡ padded (kind ∷ coordinates (x ∷ y ∷ []) ++ radius ∷ width ∷ []) ⌝ }
 {
@@ -179,16 +182,19 @@ fn circle_bytes(kind: u8, x: i16, y: i16, radius: u16, width: u16) -> [u8; 10]
         0,
         0,
         0,
+        0,
+        0,
+        0,
     ]
 }
 
 // The bytes of a setting, of a shape and of a record, zeros behind them.
-fn setting_bytes(setting: Setting) -> [u8; 10]
+fn setting_bytes(setting: Setting) -> [u8; RECORD_MOST]
     ensures { λ r. ⌜ r ≡ padded (recordBytes (Record.Setting setting)) ⌝ }
 {
     match setting {
         Setting::Clip(clip) => four_words(1, clip.x0, clip.y0, clip.x1, clip.y1),
-        Setting::Level(level) => [2, level, 0, 0, 0, 0, 0, 0, 0, 0],
+        Setting::Level(level) => [2, level, 0, 0, 0, 0, 0, 0, 0, 0, 0, 0, 0],
     }
 }
 
@@ -199,7 +205,7 @@ fn line_kind(exact: bool) -> u8
     if exact { 3 } else { 4 }
 }
 
-fn line_bytes(line: Line) -> [u8; 10]
+fn line_bytes(line: Line) -> [u8; RECORD_MOST]
     ensures { λ r. ⌜ r ≡ padded (recordBytes (Record.Shape (Shape.Line line))) ⌝ }
 {
     four_words(
@@ -211,21 +217,21 @@ fn line_bytes(line: Line) -> [u8; 10]
     )
 }
 
-fn disc_bytes(disc: Disc) -> [u8; 10]
+fn disc_bytes(disc: Disc) -> [u8; RECORD_MOST]
     requires { ⌜ OneByte (Shape.Disc disc) ⌝ }
     ensures { λ r. ⌜ r ≡ padded (recordBytes (Record.Shape (Shape.Disc disc))) ⌝ }
 {
     circle_bytes(5, disc.x, disc.y, disc.radius, 0)
 }
 
-fn ring_bytes(ring: Ring) -> [u8; 10]
+fn ring_bytes(ring: Ring) -> [u8; RECORD_MOST]
     requires { ⌜ OneByte (Shape.Ring ring) ⌝ }
     ensures { λ r. ⌜ r ≡ padded (recordBytes (Record.Shape (Shape.Ring ring))) ⌝ }
 {
     circle_bytes(6, ring.x, ring.y, ring.radius, ring.width)
 }
 
-fn shape_bytes(shape: Shape) -> [u8; 10]
+fn shape_bytes(shape: Shape) -> [u8; RECORD_MOST]
     requires { ⌜ OneByte shape ⌝ }
     ensures { λ r. ⌜ r ≡ padded (recordBytes (Record.Shape shape)) ⌝ }
 {
@@ -236,12 +242,12 @@ fn shape_bytes(shape: Shape) -> [u8; 10]
     }
 }
 
-pub(crate) fn record_bytes(rec: Record) -> [u8; 10]
+pub(crate) fn record_bytes(rec: Record) -> [u8; RECORD_MOST]
     requires { ⌜ OneByteRecord rec ⌝ }
     ensures { λ r. ⌜ r ≡ padded (recordBytes rec) ⌝ }
 {
     match rec {
-        Record::End => [0; 10],
+        Record::End => [0; RECORD_MOST],
         Record::Setting(setting) => setting_bytes(setting),
         Record::Shape(shape) => shape_bytes(shape),
     }
@@ -256,9 +262,9 @@ pub(crate) fn record_size(rec: Record) -> usize
     kind_size(bytes[0])
 }
 
-// The bytes of a header.
-pub(crate) fn header_bytes(header: Header) -> [u8; 10]
-    ensures { λ r. ⌜ r ≡ headerBytes header ⌝ }
+// The bytes of a header, zeros behind them.
+pub(crate) fn header_bytes(header: Header) -> [u8; RECORD_MOST]
+    ensures { λ r. ⌜ r ≡ padded (headerBytes header) ⌝ }
 {
     let v = numbers::word_bytes(VERSION);
     let w = numbers::word_bytes(header.w);
@@ -274,5 +280,8 @@ pub(crate) fn header_bytes(header: Header) -> [u8; 10]
         h[0],
         h[1],
         header.background,
+        0,
+        0,
+        0,
     ]
 }

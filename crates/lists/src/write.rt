@@ -6,10 +6,12 @@ ghost use lib.Dec.{ltb};
 ghost use lib.ListN.{length};
 ghost use lib.Seq.{paste};
 ghost use Rattle.lists.specs.Format.{headerSize};
+ghost use Rattle.lists.specs.inner.Record.{recordMost};
 ghost use Rattle.lists.specs.Write.{tooFew, headerWriteRefusal, recordWriteRefusal, headerWritten, headerList, recordWritten, recordList};
 use super::format::HEADER_SIZE;
 use super::format::Header;
 use super::format::LIST_MOST;
+use super::format::RECORD_MOST;
 use super::format::header_bytes;
 use super::format::record_bytes;
 use super::format::record_size;
@@ -25,8 +27,8 @@ pub struct Written {
 }
 
 // Puts the first n of some bytes into a list, from a place on.
-fn put(list: &mut [u8], place: usize, bytes: [u8; 10], n: usize)
-    requires { ⌜ (n ≤ 10) × (place + n ≤ length (now list)) ⌝ }
+fn put(list: &mut [u8], place: usize, bytes: [u8; RECORD_MOST], n: usize)
+    requires { ⌜ (n ≤ recordMost) × (place + n ≤ length (now list)) ⌝ }
     ensures { λ r. ⌜ now (list .exit) ≡ paste (now (list .entry)) place bytes n ⌝ }
 {
     let mut i: usize = 0;
@@ -38,7 +40,7 @@ fn put(list: &mut [u8], place: usize, bytes: [u8; 10], n: usize)
 
 // Whether a list of n bytes has no room for a record of some size at a place.
 fn no_room(n: usize, place: usize, size: usize) -> bool
-    requires { ⌜ size ≤ 10 ⌝ }
+    requires { ⌜ size ≤ recordMost ⌝ }
     ensures { λ r. ⌜ r ≡ (ltb place headerSize || tooFew n (place + size)) ⌝ }
 {
     if place < HEADER_SIZE {

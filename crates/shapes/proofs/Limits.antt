@@ -17,7 +17,7 @@ use Rattle.numbers.specs.inner.Offset.{offsetOf}
 use Rattle.numbers.proofs.Order.{lt-or-le, eq-or-ne}
 use Rattle.numbers.proofs.Integer.{diff-le, le-diff}
 use Rattle.numbers.proofs.Coordinate.{InRange, in-range, range-offset}
-use Rattle.shapes.specs.Limits.{outside, same, offRange, offRadius, refusalsOf, shapeRefusal}
+use Rattle.shapes.specs.Limits.{outside, same, offRange, radiusMost, offRadius, refusalsOf, shapeRefusal}
 use Rattle.shapes.specs.inner.Offsets.{pointOf, endsOf}
 use Rattle.shapes.specs.declared.Point.{Point}
 use Rattle.shapes.specs.declared.Ends.{Ends}
@@ -111,7 +111,7 @@ line-refusals l e h =
 
 -- those of a disc
 pub disc-refusals : (d : Disc) (p : Point) → p ≡ pointOf (d .x) (d .y)
-    → shapeRefusal (disc d) ≡ cond (ltb 8191 (p .x) || ltb 8191 (p .y)) 7 (cond (ltb (d .radius) 1 || ltb 255 (d .radius)) 10 0)
+    → shapeRefusal (disc d) ≡ cond (ltb 8191 (p .x) || ltb 8191 (p .y)) 7 (cond (ltb (d .radius) 1 || ltb radiusMost (d .radius)) 10 0)
 unfolding shapeRefusal offRange refusalsOf
 disc-refusals d p h = rw (h, outside-offset (d .x), outside-offset (d .y))
 
@@ -120,7 +120,7 @@ pub ring-refusals : (g : Ring)
     → shapeRefusal (ring g)
     ≡ cond (ltb 0 (shapeRefusal (disc (outer g)))) (shapeRefusal (disc (outer g))) (cond (ltb (g .width) 1 || ltb (g .radius) (g .width)) 11 0)
 unfolding shapeRefusal offRange refusalsOf
-ring-refusals g = go (outside (g .x) || outside (g .y)) (ltb (g .radius) 1 || ltb 255 (g .radius)) (cond (ltb (g .width) 1 || ltb (g .radius) (g .width)) 11 0)
+ring-refusals g = go (outside (g .x) || outside (g .y)) (ltb (g .radius) 1 || ltb radiusMost (g .radius)) (cond (ltb (g .width) 1 || ltb (g .radius) (g .width)) 11 0)
   where
     go : (a b : Bool) (n : ℕ) → cond a 7 (cond b 10 n) ≡ cond (ltb 0 (cond a 7 (cond b 10 0))) (cond a 7 (cond b 10 0)) n
     go true b n = refl
@@ -162,20 +162,20 @@ line-lawful l z =
           ∙ clear (same (l .x0) (l .x1) && same (l .y0) (l .y1)) 8 0 (k .1) .0);
     }
 
--- a circle with its centre in range and its radius from 1 to 255
+-- a circle with its centre in range and its radius from 1 to the greatest
 pub record LawfulCircle (x y : ℤ) (radius : ℕ) : Type 0 where
   pub x-in : InRange x
   pub y-in : InRange y
   pub least : 1 ≤ radius
-  pub most : radius ≤ 255
+  pub most : radius ≤ radiusMost
 
 circle-lawful : (x y : ℤ) (radius n : ℕ) → cond (outside x || outside y) 7 (cond (offRadius radius) 10 n) ≡ 0 → LawfulCircle x y radius × (n ≡ 0)
 circle-lawful x y radius n z =
     let a = clear (outside x || outside y) 6 _ z in
     let b = clear (offRadius radius) 9 n (a .1) in
     let c = or-clear (outside x) (outside y) (a .0) in
-    let d = or-clear (ltb radius 1) (ltb 255 radius) (b .0) in
-    (record { x-in = in-of (c .0); y-in = in-of (c .1); least = omega (arith, ltb-false radius 1 (d .0)); most = omega (arith, ltb-false 255 radius (d .1)) }, b .1)
+    let d = or-clear (ltb radius 1) (ltb radiusMost radius) (b .0) in
+    (record { x-in = in-of (c .0); y-in = in-of (c .1); least = omega (arith, ltb-false radius 1 (d .0)); most = omega (arith, ltb-false radiusMost radius (d .1)) }, b .1)
 
 pub disc-lawful : (d : Disc) → shapeRefusal (disc d) ≡ 0 → LawfulCircle (d .x) (d .y) (d .radius)
 unfolding shapeRefusal offRange refusalsOf

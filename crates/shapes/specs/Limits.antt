@@ -44,9 +44,12 @@ offPage w h c = not (leb (c .x0) (c .x1) && leb (c .x1) w && leb (c .y0) (c .y1)
 abbrev pub same : ℤ → ℤ → Bool
 same a b = leZ a b && leZ b a
 
--- 10: a radius of 0 or above 255
+abbrev pub radiusMost : ℕ
+radiusMost = 255
+
+-- 10: a radius of 0 or above the greatest
 abbrev pub offRadius : ℕ → Bool
-offRadius r = ltb r 1 || ltb 255 r
+offRadius r = ltb r 1 || ltb radiusMost r
 
 -- what else is tried of a shape. 9: a line whose ends coincide. 11: a ring's width of 0 or above the radius
 unfoldable pub refusalsOf : Shape → List (Bool × ℕ)

@@ -3,6 +3,9 @@ ghost use mathlib.Core.Path.{_≡_};
 ghost use Rattle.shapes.specs.Limits.{sizeRefusal, clipRefusal, shapeRefusal, recordRefusal};
 ghost use Rattle.shapes.specs.inner.Offsets.{pointOf, endsOf};
 
+// The greatest radius.
+pub const RADIUS_MOST: u16 = 255;
+
 pub struct Line {
     pub exact: bool,
     pub x0: i16,
@@ -166,7 +169,7 @@ fn disc_refusal(disc: Disc) -> u8
     if disc.radius < 1 {
         return 10;
     }
-    if 255 < disc.radius {
+    if RADIUS_MOST < disc.radius {
         return 10;
     }
     0

@@ -1,24 +1,32 @@
 -- The frame of a line as the code holds it.
-use mathlib.Core.Bool.{Bool, true}
+use mathlib.Core.Bool.{Bool, true, cond}
 use mathlib.Core.Path.{_≡_}
-use Prim.Native.Nat.{ℕ, _+_, _-_, _≤_, _<_}
-use lib.Dec.{ltb}
+use Prim.Native.Nat.{_+_, _-_, _≤_, _<_}
+use lib.Dec.{leb, ltb}
 use Rattle.numbers.specs.Coordinate.{inRange}
 use Rattle.numbers.specs.inner.Order.{dist}
 use Rattle.numbers.specs.inner.Offset.{offsetOf}
 use Rattle.shapes.specs.declared.Line.{Line}
+use Rattle.shapes.specs.declared.Ends.{Ends}
 use Rattle.shapes.specs.Span.{longer, shorter, steep}
 use Rattle.coverage.specs.Frame.{framed, falls}
 use Rattle.coverage.specs.declared.line.Frame.{Frame}
 
--- the frame as the code holds it, of ends in the order in which x rises, given by their offsets
-pub record Rising (steep : Bool) (x0 y0 x1 y1 : ℕ) (f : Frame) : Type 0 where
-  pub l-is : f .l ≡ x1 - x0
-  pub s-is : f .s ≡ dist y0 y1
+-- the ends by their offsets: x and y exchanged where y is the longer, and then in the order in which x rises
+abbrev pub exchangedBy : Bool → Ends → Ends
+exchangedBy steep e = cond steep (record { x0 = e .y0; y0 = e .x0; x1 = e .y1; y1 = e .x1 }) e
+
+abbrev pub inOrder : Ends → Ends
+inOrder e = cond (leb (e .x0) (e .x1)) e (record { x0 = e .x1; y0 = e .y1; x1 = e .x0; y1 = e .y0 })
+
+-- the frame as the code holds it, of ends in that order
+pub record Rising (steep : Bool) (e : Ends) (f : Frame) : Type 0 where
+  pub l-is : f .l ≡ e .x1 - e .x0
+  pub s-is : f .s ≡ dist (e .y0) (e .y1)
   pub steep-is : f .steep ≡ steep
-  pub falls-is : f .falls ≡ ltb y1 y0
-  pub x-is : f .x ≡ x0
-  pub y-is : f .y ≡ y0
+  pub falls-is : f .falls ≡ ltb (e .y1) (e .y0)
+  pub x-is : f .x ≡ e .x0
+  pub y-is : f .y ≡ e .y0
 
 -- and of a line
 pub record Framed (n : Line) (f : Frame) : Type 0 where

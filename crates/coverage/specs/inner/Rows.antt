@@ -3,38 +3,19 @@
 use mathlib.Core.Bool.{Bool, true, false, cond}
 use Prim.Native.Nat.{ℕ, zero, suc, _+_, _*_, _-_}
 use lib.IntN.{ℤ, pos, negsuc}
-use Rattle.coverage.specs.Line.{exactWhole, approxWhole}
+use Rattle.coverage.specs.Line.{exactRow, exactWhole, approxRow, approxWhole}
 use Rattle.coverage.specs.declared.line.Rows.{Rows}
+
+-- one of the two rules, and what its rows add up to
+abbrev pub ruleOf : Bool → ℕ → ℕ → ℕ → ℤ → ℤ
+ruleOf exact = cond exact exactRow approxRow
+
+abbrev pub wholeOf : Bool → ℕ → ℕ → ℕ
+wholeOf exact l s = cond exact (exactWhole l s) (approxWhole l)
 
 -- t cut at 0
 abbrev pub cutExcess : ℕ → ℕ → ℕ → ℕ
 cutExcess l s r = r + 2 * s - 2 * l
-
--- over 8·l·s, or over 2 where s is 0
-unfoldable pub exactRows : ℕ → ℕ → ℕ → Rows
-exactRows l zero r = record { upper = 0; middle = 1; lower = 1 }
-exactRows l (suc s) r =
-    record {
-      upper = cutExcess l (suc s) r * cutExcess l (suc s) r;
-      middle = 4 * (suc s * (r + suc s)) - 2 * (cutExcess l (suc s) r * cutExcess l (suc s) r);
-      lower = 8 * (l * suc s) + cutExcess l (suc s) r * cutExcess l (suc s) r - 4 * (suc s * (r + suc s));
-    }
-
--- over 4·l
-unfoldable pub approxRows : ℕ → ℕ → ℕ → Rows
-approxRows l s r =
-    record {
-      upper = cutExcess l s r;
-      middle = 2 * (r + s) - 2 * cutExcess l s r;
-      lower = 4 * l + cutExcess l s r - 2 * (r + s);
-    }
-
--- under one of the rules, and what they add up to
-abbrev pub rowsOf : Bool → ℕ → ℕ → ℕ → Rows
-rowsOf exact l s r = cond exact (exactRows l s r) (approxRows l s r)
-
-abbrev pub wholeOf : Bool → ℕ → ℕ → ℕ
-wholeOf exact l s = cond exact (exactWhole l s) (approxWhole l)
 
 -- the middle row where t is at most 0, and an outer row where it is not
 unfoldable pub riseOf : Bool → ℕ → ℕ → ℕ
@@ -44,6 +25,18 @@ riseOf false s r = 2 * (r + s)
 
 abbrev pub cornerOf : Bool → ℕ → ℕ
 cornerOf exact t = cond exact (t * t) t
+
+abbrev pub cornerAt : Bool → ℕ → ℕ → ℕ → ℕ
+cornerAt exact l s r = cornerOf exact (cutExcess l s r)
+
+-- under both rules: where the band passes above row q by t, the row above has the corner, which row q lacks twice
+abbrev pub rowsOf : Bool → ℕ → ℕ → ℕ → Rows
+rowsOf exact l s r =
+    record {
+      upper = cornerAt exact l s r;
+      middle = riseOf exact s r - 2 * cornerAt exact l s r;
+      lower = wholeOf exact l s + cornerAt exact l s r - riseOf exact s r;
+    }
 
 -- the row k above row q
 unfoldable pub atRow : Rows → ℤ → ℕ

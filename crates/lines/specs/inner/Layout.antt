@@ -7,6 +7,7 @@ use Prim.Native.Nat.{ℕ, _+_, _*_, _-_, _^_, _≤_, _<_}
 use lib.Dec.{leb, ltb}
 use lib.IntN.{pos}
 use lib.ListN.{getD, set}
+use Rattle.numbers.specs.inner.Offset.{origin}
 use Rattle.shapes.specs.declared.Line.{Line}
 use Rattle.shapes.specs.declared.Shape.the-variants.{Line as line}
 use Rattle.coverage.specs.Line.{rowOf, restOf}
@@ -48,7 +49,7 @@ rowAt f x y = cond (f .falls) (f .y + 12287 - cond (f .steep) x y) (cond (f .ste
 
 -- the byte of column p and row g, with the layout's origin added, so that a pixel off the page has one too
 abbrev pub byteAt : Frame → Layout → ℕ → ℕ → ℕ
-byteAt f lay p g = (p + 4096) * lay .along + cond (f .falls) (f .y + 32767 - g) (f .y + g) * lay .across
+byteAt f lay p g = (p + origin) * lay .along + cond (f .falls) (f .y + 32767 - g) (f .y + g) * lay .across
 
 pub record Laid (c : View) (f : Frame) (lay : Layout) : Type 0 where
   pub along-is : lay .along ≡ cond (f .steep) (c .w) 1
@@ -56,7 +57,7 @@ pub record Laid (c : View) (f : Frame) (lay : Layout) : Type 0 where
   pub falls-is : lay .falls ≡ f .falls
   pub low-is : lay .low ≡ cond (f .falls) (f .y + 12288 - acrossEnd c f) (acrossFrom c f + 20480 - f .y)
   pub high-is : lay .high ≡ cond (f .falls) (f .y + 12288 - acrossFrom c f) (acrossEnd c f + 20480 - f .y)
-  pub origin-is : lay .origin ≡ 4096 * lay .along + 20480 * lay .across
+  pub origin-is : lay .origin ≡ origin * lay .along + 20480 * lay .across
 
 -- row g lies in the clip
 abbrev pub shown : Layout → ℕ → Bool
@@ -99,8 +100,8 @@ pub record Reachable (lay : Layout) (k g size : ℕ) : Type 0 where
 -- the walk stands at column p: its byte, its row and its rest
 pub record At (f : Frame) (lay : Layout) (p k g r : ℕ) : Type 0 where
   pub k-is : k ≡ byteAt f lay p g
-  pub g-is : g ≡ 16384 + rowOf (f .l) (f .s) (p + 4096 - f .x)
-  pub r-is : r ≡ restOf (f .l) (f .s) (p + 4096 - f .x)
+  pub g-is : g ≡ 16384 + rowOf (f .l) (f .s) (p + origin - f .x)
+  pub r-is : r ≡ restOf (f .l) (f .s) (p + origin - f .x)
 
 -- from the rest r the next column is in the next row where r and 2s come to 2l
 pub record Advanced (lay : Layout) (l2 s2 k g r k′ g′ r′ : ℕ) : Type 0 where

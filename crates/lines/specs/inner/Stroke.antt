@@ -2,6 +2,7 @@
 use mathlib.Core.Path.{_≡_}
 use mathlib.Core.List.{List}
 use Prim.Native.Nat.{ℕ, _+_, _-_, _*_, _≤_, _<_}
+use Rattle.numbers.specs.inner.Offset.{origin}
 use Rattle.coverage.specs.inner.Rows.{wholeOf}
 use Rattle.coverage.specs.inner.Frame.{Framed}
 use Rattle.page.specs.inner.Ink.{Reciprocal}
@@ -22,13 +23,13 @@ pub record Prepared (s : Stroke) (size : ℕ) : Type 0 where
 pub record Standing (s : Stroke) (at : Step) : Type 0 where
   pub is : At (s .frame) (s .layout) (at .p) (at .k) (at .g) (at .r)
   pub left : alongFrom (s .view) (s .frame) ≤ at .p
-  pub first : s .frame .x ≤ at .p + 4096
+  pub first : s .frame .x ≤ at .p + origin
   pub few : at .touched ≤ 3 * at .p
 
 -- the columns before e end with the clip's and with the line's
 pub record EndInside (s : Stroke) (e : ℕ) : Type 0 where
   pub right : e ≤ alongEnd (s .view) (s .frame)
-  pub last : e + 4096 ≤ s .frame .x + s .frame .l
+  pub last : e + origin ≤ s .frame .x + s .frame .l
 
 -- a walk may draw the column at which it stands, on a page of size bytes
 pub record Steppable (s : Stroke) (at : Step) (size : ℕ) : Type 0 where

@@ -13,9 +13,13 @@ pub record Whole (s : List ℕ) : Type 0 where
   pub known : 0 < sizeAt s
   pub fits : sizeAt s ≤ length s
 
+-- how many bytes the array of a record or a header has; each fits
+abbrev pub recordMost : ℕ
+recordMost = 13
+
 -- bytes with zeros behind them
 abbrev pub padded : List ℕ → List ℕ
-padded bs = bs ++ replicate (10 - length bs) 0
+padded bs = bs ++ replicate (recordMost - length bs) 0
 
 -- a radius and a width are one byte each
 unfoldable pub OneByte : Shape → Type 0

@@ -32,21 +32,21 @@ sub-t10 : tie.Need-sub-t10
 sub-t10 c =
     let a = c .before .before .args in
     let pre = c .before .before .pre in
-    let h = corners-le (a .l) (a .s) (a .r) (pre .1) (pre .2) (pre .3) (a .exact) in
+    let h = corners-le (a .exact) (a .l) (a .s) (a .r) (pre .1) (pre .2) (pre .3) in
     omega (arith, h, c .before .corner .ensures, pre .4)
 
 sub-t11 : tie.Need-sub-t11
 sub-t11 c =
     let a = c .before .before .args in
     let pre = c .before .before .pre in
-    let h = corners-le (a .l) (a .s) (a .r) (pre .1) (pre .2) (pre .3) (a .exact) in
+    let h = corners-le (a .exact) (a .l) (a .s) (a .r) (pre .1) (pre .2) (pre .3) in
     omega (arith, h, c .before .corner .ensures, c .corner2 .ensures, pre .4)
 
 returns : tie.Need-returns
 returns c =
     let pre = c .before .before .pre in
     let a = c .before .before .args in
-    rw (c .before .corner .ensures, c .corner2 .ensures, pre .4) (crossed-is (a .l) (a .s) (a .r) (pre .1) (pre .2) (pre .3) (a .exact))
+    rw (c .before .corner .ensures, c .corner2 .ensures, pre .4) (crossed-is (a .exact) (a .l) (a .s) (a .r) (pre .1) (pre .2) (pre .3))
 
 pub crossed-rows-spec : {M : Type 1} → statement M
 crossed-rows-spec =

@@ -1,3 +1,4 @@
+-- With t at most 0 there is no corner: the middle row has the whole rise, and the lower one what is left of the whole.
 use Rattle.coverage.proofs.Closed.{rise-le, flat-is}
 use borrow.Author.Needs.{needs}
 use Rattle.coverage.proofs.line.flat_rows.Statement.{statement}
@@ -7,10 +8,16 @@ rise-requires : tie.Need-rise-requires
 rise-requires c κs = search needs
 
 sub-t7 : tie.Need-sub-t7
-sub-t7 c = rw (c .rise .ensures, c .before .pre .4) (rise-le (c .before .args .l) (c .before .args .r) (c .before .args .exact) (c .before .args .s) (c .before .pre .3))
+sub-t7 c =
+    let a = c .before .args in
+    let pre = c .before .pre in
+    rw (c .rise .ensures, pre .4) (rise-le (a .exact) (a .l) (a .s) (a .r) (pre .1) (pre .2) (pre .3))
 
 returns : tie.Need-returns
-returns c = rw (c .rise .ensures, c .before .pre .4) (flat-is (c .before .args .l) (c .before .args .r) (c .before .args .exact) (c .before .args .s) (c .before .pre .3))
+returns c =
+    let a = c .before .args in
+    let pre = c .before .pre in
+    rw (c .rise .ensures, pre .4) (flat-is (a .exact) (a .l) (a .s) (a .r) (pre .1) (pre .2) (pre .3))
 
 pub flat-rows-spec : {M : Type 1} → statement M
 flat-rows-spec = tie.close (tie.spec rise-requires sub-t7 returns)

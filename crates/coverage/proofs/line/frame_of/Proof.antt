@@ -1,23 +1,9 @@
-use Prim.Native.Nat.{_≤_, _<_}
-use Rattle.numbers.specs.inner.Order.{dist}
-use Rattle.shapes.specs.inner.Offsets.{endsOf}
-use Rattle.shapes.proofs.Limits.{LawfulLine, line-lawful}
-use Rattle.coverage.proofs.Framing.{flat-forward, flat-backward, upright-forward, upright-backward}
+-- By offsets the code exchanges the ends and then orders them as the definition does by coordinates, and in range both are in one order.
+use Rattle.shapes.proofs.Limits.{line-lawful}
+use Rattle.coverage.proofs.Framing.{order-rises, frame-is}
 use borrow.Author.Needs.{needs}
 use Rattle.coverage.proofs.line.frame_of.Statement.{statement}
 use Rattle.coverage.proofs.line.frame_of.Tie as tie
-
-lawful : (c : tie.Start) → LawfulLine (c .args .line)
-lawful c = line-lawful (c .args .line) (c .pre)
-
--- which span is the longer, by the offsets of the ends
-upright : (c : tie.Then1) → let e = endsOf (c .before .before .before .before .args .line) in dist (e .x0) (e .x1) < dist (e .y0) (e .y1)
-upright c =
-    rw (c .before .before .distance .ensures, c .before .distance2 .ensures, c .before .before .before .ends-of .ensures) at (c .if1 .taken)
-
-flat : (c : tie.Else1) → let e = endsOf (c .before .before .before .before .args .line) in dist (e .y0) (e .y1) ≤ dist (e .x0) (e .x1)
-flat c =
-    rw (c .before .before .distance .ensures, c .before .distance2 .ensures, c .before .before .before .ends-of .ensures) at (c .if1 .left)
 
 ends-of-requires : tie.Need-ends-of-requires
 ends-of-requires c κs = search needs
@@ -28,54 +14,25 @@ distance-requires c κs = search needs
 distance-requires-2 : tie.Need-distance-requires-2
 distance-requires-2 c κs = search needs
 
+exchanged-requires : tie.Need-exchanged-requires
+exchanged-requires c κs = search needs
+
+ordered-requires : tie.Need-ordered-requires
+ordered-requires c κs = search needs
+
 rising-frame-requires : tie.Need-rising-frame-requires
-rising-frame-requires c κs = search needs
+rising-frame-requires c κs = rw (c .ordered .ensures) (order-rises (c .before .exchanged .result))
 
 returns : tie.Need-returns
 returns c =
-    let t = c .before .before .before in
-    let s = t .before .before .before in
-    upright-forward _ (lawful (s .before)) (upright t) (rw (s .ends-of .ensures) at (c .before .if2 .taken)) (rw (s .ends-of .ensures) at (c .rising-frame .ensures))
-
-rising-frame-requires-2 : tie.Need-rising-frame-requires-2
-rising-frame-requires-2 c κs = search needs
-
-returns-2 : tie.Need-returns-2
-returns-2 c =
-    let t = c .before .before .before in
-    let s = t .before .before .before in
-    upright-backward _ (lawful (s .before)) (upright t) (rw (s .ends-of .ensures) at (c .before .if2 .left)) (rw (s .ends-of .ensures) at (c .rising-frame2 .ensures))
-
-rising-frame-requires-3 : tie.Need-rising-frame-requires-3
-rising-frame-requires-3 c κs = search needs
-
-returns-3 : tie.Need-returns-3
-returns-3 c =
-    let t = c .before .before .before in
-    let s = t .before .before .before in
-    flat-forward _ (lawful (s .before)) (flat t) (rw (s .ends-of .ensures) at (c .before .if3 .taken)) (rw (s .ends-of .ensures) at (c .rising-frame3 .ensures))
-
-rising-frame-requires-4 : tie.Need-rising-frame-requires-4
-rising-frame-requires-4 c κs = search needs
-
-returns-4 : tie.Need-returns-4
-returns-4 c =
-    let t = c .before .before .before in
-    let s = t .before .before .before in
-    flat-backward _ (lawful (s .before)) (flat t) (rw (s .ends-of .ensures) at (c .before .if3 .left)) (rw (s .ends-of .ensures) at (c .rising-frame4 .ensures))
+    let o = c .before in
+    let x = o .before in
+    let d = x .before in
+    let e = d .before .before in
+    frame-is (e .before .args .line) (line-lawful (e .before .args .line) (e .before .pre))
+    (rw (o .ordered .ensures, x .exchanged .ensures, d .distance2 .ensures, d .before .distance .ensures, e .ends-of .ensures) at (c .rising-frame .ensures))
 
 pub frame-of-spec : {M : Type 1} → statement M
 frame-of-spec =
     tie.close
-    (tie.spec
-    ends-of-requires
-    distance-requires
-    distance-requires-2
-    rising-frame-requires
-    returns
-    rising-frame-requires-2
-    returns-2
-    rising-frame-requires-3
-    returns-3
-    rising-frame-requires-4
-    returns-4)
+    (tie.spec ends-of-requires distance-requires distance-requires-2 exchanged-requires ordered-requires rising-frame-requires returns)

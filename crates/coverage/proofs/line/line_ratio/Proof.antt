@@ -103,7 +103,7 @@ returns-3 c =
     let py = y-in (f .before) in
     let e : c .row-at .result ≡ drawnN (line (f .before .args .line)) (f .before .args .x) (f .before .args .y) =
     rw (c .row-at .ensures, rows .rows-of .ensures, rows .before .crossing-at .ensures .0, rows .before .crossing-at .ensures .1, r .biased-row .ensures, across (r .before), along k)
-    (drawn-inside g px py (across-le g px py) (rw (along k) at (inside .before .before .if1 .left)) (rw (along k) at (inside .if2 .left))) in
+    (drawn-inside g px py (rw (along k) at (inside .before .before .if1 .left)) (rw (along k) at (inside .if2 .left))) in
     let d = whole (k .before .before) in
     λ i. record { n = e i; d = d i }
 

@@ -3,6 +3,7 @@ use Prim.Native.Nat.{ℕ, _+_}
 use native.Mathlib.Nat.{mul-le-mul}
 use native.Mathlib.Omega.{arith}
 use borrow.Author.Needs.{needs}
+use Rattle.numbers.specs.inner.Offset.{origin}
 use Rattle.lines.proofs.step.first_step.Statement.{statement}
 use Rattle.lines.proofs.step.first_step.Tie as tie
 
@@ -36,7 +37,7 @@ add-t11 c = search needs
 mul-t13 : tie.Need-mul-t13
 mul-t13 c =
     let a = c .before .before .before .before .args in
-    omega (arith, mul-le-mul {n₁ = a .p + 4096} {m₁ = a .lay .along} {n₂ = 5120} {m₂ = 1024} (omega arith) (omega arith))
+    omega (arith, mul-le-mul {n₁ = a .p + origin} {m₁ = a .lay .along} {n₂ = 5120} {m₂ = 1024} (omega arith) (omega arith))
 
 mul-t12 : tie.Need-mul-t12
 mul-t12 c =
@@ -45,7 +46,7 @@ mul-t12 c =
 add-t14 : tie.Need-add-t14
 add-t14 c =
     let a = c .before .before .before .before .before .args in
-    omega (arith, mul-le-mul {n₁ = a .p + 4096} {m₁ = a .lay .along} {n₂ = 5120} {m₂ = 1024} (omega arith) (omega arith), mul-le-mul {n₁ = c .before .before .either .result} {m₁ = c .before .before .before .before .before .args .lay .across} {n₂ = 65535} {m₂ = 1024} (omega arith) (omega arith))
+    omega (arith, mul-le-mul {n₁ = a .p + origin} {m₁ = a .lay .along} {n₂ = 5120} {m₂ = 1024} (omega arith) (omega arith), mul-le-mul {n₁ = c .before .before .either .result} {m₁ = c .before .before .before .before .before .args .lay .across} {n₂ = 65535} {m₂ = 1024} (omega arith) (omega arith))
 
 returns : tie.Need-returns
 returns c = (

@@ -2,6 +2,7 @@ use Prim.Native.Nat.{min}
 use native.Mathlib.Omega.{arith}
 use borrow.Author.Needs.{needs}
 use borrow.Author.Tests.{lt-ltb, le-ltb}
+use Rattle.lists.specs.Format.{listMost, headerSize}
 use Rattle.lists.specs.Write.{headerWriteRefusal}
 use Rattle.lists.proofs.write.header_write_refusal.Statement.{statement}
 use Rattle.lists.proofs.write.header_write_refusal.Tie as tie
@@ -18,14 +19,14 @@ unfolding headerWriteRefusal
 returns-2 c =
     let size-refusal = c .before .before .size-refusal in
     let args = c .before .before .before .args in
-    simp (← size-refusal .ensures, le-ltb _ _ (c .before .if1 .left), lt-ltb (min (args .n) 65536) 10 (omega arith))
+    simp (← size-refusal .ensures, le-ltb _ _ (c .before .if1 .left), lt-ltb (min (args .n) listMost) headerSize (omega arith))
 
 returns-3 : tie.Need-returns-3
 unfolding headerWriteRefusal
 returns-3 c =
     let size-refusal = c .before .before .size-refusal in
     let args = c .before .before .before .args in
-    simp (← size-refusal .ensures, le-ltb _ _ (c .before .if1 .left), le-ltb (min (args .n) 65536) 10 (omega arith))
+    simp (← size-refusal .ensures, le-ltb _ _ (c .before .if1 .left), le-ltb (min (args .n) listMost) headerSize (omega arith))
 
 pub header-write-refusal-spec : {M : Type 1} → statement M
 header-write-refusal-spec = tie.close (tie.spec size-refusal-requires returns returns-2 returns-3)

@@ -6,17 +6,18 @@ use borrow.Author.Needs.{needs}
 use borrow.Author.Tests.{lt-ltb, le-ltb}
 use lib.Dec.{ltb}
 use Rattle.numbers.proofs.Order.{lt-or-le}
+use Rattle.lists.specs.Format.{listMost}
 use Rattle.lists.specs.Write.{tooFew}
 use Rattle.lists.proofs.write.no_room.Statement.{statement}
 use Rattle.lists.proofs.write.no_room.Tie as tie
 
 -- where no more than 65,536 bytes are asked for, all bytes serve
-all-serve : (n last : ℕ) → last ≤ 65536 → ltb n last ≡ tooFew n last
+all-serve : (n last : ℕ) → last ≤ listMost → ltb n last ≡ tooFew n last
 all-serve n last h = go (lt-or-le n last)
   where
     go : (n < last) ⊎ (last ≤ n) → ltb n last ≡ tooFew n last
-    go (inl k) = rw (lt-ltb n last k, lt-ltb (min n 65536) last (omega arith))
-    go (inr k) = rw (le-ltb n last k, le-ltb (min n 65536) last (omega arith))
+    go (inl k) = rw (lt-ltb n last k, lt-ltb (min n listMost) last (omega arith))
+    go (inr k) = rw (le-ltb n last k, le-ltb (min n listMost) last (omega arith))
 
 returns : tie.Need-returns
 returns c = simp (lt-ltb _ _ (c .if1 .taken))
@@ -24,7 +25,7 @@ returns c = simp (lt-ltb _ _ (c .if1 .taken))
 returns-2 : tie.Need-returns-2
 returns-2 c =
     let a = c .before .before .args in
-    simp (le-ltb _ _ (c .before .if1 .left), lt-ltb (min (a .n) 65536) (a .place + a .size) (omega arith))
+    simp (le-ltb _ _ (c .before .if1 .left), lt-ltb (min (a .n) listMost) (a .place + a .size) (omega arith))
 
 add-if3 : tie.Need-add-if3
 add-if3 c = search needs
@@ -32,7 +33,7 @@ add-if3 c = search needs
 returns-3 : tie.Need-returns-3
 returns-3 c =
     let a = c .before .before .before .args in
-    simp (le-ltb _ _ (c .before .before .if1 .left), lt-ltb (min (a .n) 65536) (a .place + a .size) (omega arith))
+    simp (le-ltb _ _ (c .before .before .if1 .left), lt-ltb (min (a .n) listMost) (a .place + a .size) (omega arith))
 
 add-result : tie.Need-add-result
 add-result c = search needs

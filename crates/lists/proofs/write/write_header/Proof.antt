@@ -4,6 +4,7 @@ use borrow.Author.Needs.{needs}
 use lib.ListN.{length}
 use denote.Ref.{now}
 use Rattle.lists.specs.Format.{headerBytes}
+use Rattle.lists.proofs.Bytes.{put-padded}
 use Rattle.lists.proofs.Writes.{header-refused, header-done, header-room}
 use Rattle.lists.proofs.write.write_header.Statement.{statement}
 use Rattle.lists.proofs.write.write_header.Tie as tie
@@ -39,7 +40,7 @@ returns-2 c =
     let header-bytes = c .before .before .before .header-bytes in
     let a = c .before .before .before .before .before .before .before .before .args in
     let done = header-done (now (a .list)) (a .place) (a .w) (a .h) (a .header) (sym (header-write-refusal .ensures) ∙ omega arith) in
-    (done .0, c .before .before .put .ensures ∙ rw (header-bytes .ensures) (done .1))
+    (done .0, c .before .before .put .ensures ∙ rw (header-bytes .ensures) (put-padded (now (a .list)) 0 (headerBytes (a .header)) ∙ done .1))
 
 pub write-header-spec : {M : Type 1} → statement M
 write-header-spec =
