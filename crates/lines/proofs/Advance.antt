@@ -8,16 +8,16 @@ use native.Mathlib.Omega.{arith}
 use lib.Arith.{digits-div, digits-mod}
 use lib.Dec.{leb}
 use borrow.Author.Tests.{le-leb, lt-leb}
-use Rattle.numbers.specs.inner.Offset.{origin}
+use Rattle.numbers.specs.inner.Offset.{origin, offsetMost}
 use Rattle.numbers.proofs.Order.{lt-or-le}
 use Rattle.coverage.specs.Line.{rowOf, restOf}
 use Rattle.coverage.specs.declared.line.Frame.{Frame}
 use Rattle.coverage.proofs.Closed.{column-is, rest-lt, row-le}
-use Rattle.coverage.specs.inner.Frame.{Framed}
+use Rattle.coverage.specs.inner.Frame.{Framed, rowOrigin}
 use Rattle.shapes.specs.declared.Line.{Line}
 use Rattle.page.specs.inner.Paint.{Lawful}
 use Rattle.page.specs.declared.View.{View}
-use Rattle.lines.specs.inner.Layout.{alongFrom, alongEnd, byteAt, Laid, raised, lowered, Reachable, At, Advanced}
+use Rattle.lines.specs.inner.Layout.{alongFrom, alongEnd, byteAt, Laid, raised, lowered, Reachable, At, Advanced, acrossBy}
 use Rattle.lines.specs.declared.layout.Layout.{Layout}
 use Rattle.lines.proofs.Column.{raised-byte, lowered-byte}
 use Rattle.lines.proofs.RowPixel.{byte-on-page}
@@ -47,7 +47,7 @@ module _ (l s i : ℕ) (long : 0 < l) (short : s ≤ l) where
 byte-next : (f : Frame) (lay : Layout) (p g : ℕ) → byteAt f lay (p + 1) g ≡ byteAt f lay p g + lay .along
 byte-next f lay p g = omega arith
 
-pub advance : (f : Frame) (lay : Layout) (p k g r k′ g′ r′ : ℕ) → 0 < f .l → f .s ≤ f .l → f .l ≤ 8191 → f .x ≤ p + origin → p + origin < f .x + f .l → lay .falls ≡ f .falls
+pub advance : (f : Frame) (lay : Layout) (p k g r k′ g′ r′ : ℕ) → 0 < f .l → f .s ≤ f .l → f .l ≤ offsetMost → f .x ≤ p + origin → p + origin < f .x + f .l → lay .falls ≡ f .falls
     → At f lay p k g r → Advanced lay (2 * f .l) (2 * f .s) k g r k′ g′ r′ → At f lay (p + 1) k′ g′ r′
 advance f lay p k g r k′ g′ r′ long short most first last falls-is at to =
     let i : ℕ = p + origin - f .x in
@@ -61,25 +61,25 @@ advance f lay p k g r k′ g′ r′ long short most first last falls-is at to =
       r-is = to .r-is ∙ rw (e, n .1, z, at .r-is);
     }
   where
-    byte : (t : Bool) → 0 < g → g ≤ 32766 → cond t (raised lay k) k + lay .along ≡ byteAt f lay (p + 1) (cond t (g + 1) g)
+    byte : (t : Bool) → 0 < g → g + 1 < 2 * rowOrigin → cond t (raised lay k) k + lay .along ≡ byteAt f lay (p + 1) (cond t (g + 1) g)
     byte true h₁ h₂ = ap (λ (u : ℕ). u + lay .along) (ap (raised lay) (at .k-is) ∙ raised-byte f lay falls-is p g h₁ h₂) ∙ sym (byte-next f lay p (g + 1))
     byte false h₁ h₂ = ap (λ (u : ℕ). u + lay .along) (at .k-is) ∙ sym (byte-next f lay p g)
 
-    sum : (t : Bool) (q : ℕ) → cond t (16384 + q + 1) (16384 + q) ≡ 16384 + cond t (q + 1) q
+    sum : (t : Bool) (q : ℕ) → cond t (rowOrigin + q + 1) (rowOrigin + q) ≡ rowOrigin + cond t (q + 1) q
     sum true q = omega arith
     sum false q = refl
 
 -- ---- what a walk may do at a column
 
-byte-least : (falls : Bool) (y g a b : ℕ) → 0 < g → g ≤ 32766 → b ≤ a + cond falls (y + 32767 - g) (y + g) * b
-byte-least true y g a b h k = omega (arith, mul-le-mul-right {m = 1} {n = y + 32767 - g} b (omega arith))
+byte-least : (falls : Bool) (y g a b : ℕ) → 0 < g → g + 1 < 2 * rowOrigin → b ≤ a + acrossBy falls y g * b
+byte-least true y g a b h k = omega (arith, mul-le-mul-right {m = 1} {n = y + (2 * rowOrigin - 1) - g} b (omega arith))
 byte-least false y g a b h k = omega (arith, mul-le-mul-right {m = 1} {n = y + g} b (omega arith))
 
-row-most : (falls : Bool) (y g : ℕ) → y ≤ 8191 → g ≤ 32766 → cond falls (y + 32767 - g) (y + g) ≤ 65535
+row-most : (falls : Bool) (y g : ℕ) → y ≤ offsetMost → g + 1 < 2 * rowOrigin → acrossBy falls y g ≤ 65535
 row-most true y g h k = omega arith
 row-most false y g h k = omega arith
 
-byte-most : (falls : Bool) (p y g a b : ℕ) → p ≤ 1024 → y ≤ 8191 → g ≤ 32766 → a ≤ 1024 → b ≤ 1024 → (p + origin) * a + cond falls (y + 32767 - g) (y + g) * b ≤ 134217728
+byte-most : (falls : Bool) (p y g a b : ℕ) → p ≤ 1024 → y ≤ offsetMost → g + 1 < 2 * rowOrigin → a ≤ 1024 → b ≤ 1024 → (p + origin) * a + acrossBy falls y g * b ≤ 134217728
 byte-most falls p y g a b hp hy hg ha hb =
     omega (arith, mul-le-mul {n₁ = p + origin} {m₁ = a} {n₂ = 5120} {m₂ = 1024} (omega arith) ha, mul-le-mul {m₁ = b} {m₂ = 1024} (row-most falls y g hy hg) hb)
 

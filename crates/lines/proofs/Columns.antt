@@ -6,7 +6,7 @@ use Prim.Native.Nat.{ℕ, zero, suc, _+_, _*_, _^_, _≤_, _<_}
 use native.Mathlib.Nat.{mul-le-mul, mul-pos}
 use native.Mathlib.Omega.{arith}
 use lib.ListN.{length}
-use Rattle.numbers.specs.inner.Offset.{origin}
+use Rattle.numbers.specs.inner.Offset.{origin, offsetMost}
 use Rattle.shapes.specs.declared.Line.{Line}
 use Rattle.coverage.specs.Line.{exactWhole, approxWhole}
 use Rattle.coverage.specs.inner.Rows.{rowsOf, wholeOf}
@@ -26,10 +26,10 @@ use Rattle.lines.proofs.Column.{column-drawn}
 
 -- ---- the rows of a column are coverages
 
-whole-most : (t : Bool) (l s : ℕ) → l ≤ 8191 → s ≤ l → wholeOf t l s ≤ 2 ^ 30
+whole-most : (t : Bool) (l s : ℕ) → l ≤ offsetMost → s ≤ l → wholeOf t l s ≤ 2 ^ 30
 unfolding exactWhole approxWhole
 whole-most true l zero h k = omega arith
-whole-most true l (suc s) h k = omega (arith, mul-le-mul {n₁ = l} {m₁ = suc s} {n₂ = 8191} {m₂ = 8191} h (omega arith))
+whole-most true l (suc s) h k = omega (arith, mul-le-mul {n₁ = l} {m₁ = suc s} {n₂ = offsetMost} {m₂ = offsetMost} h (omega arith))
 whole-most false l s h k = omega arith
 
 whole-some : (t : Bool) (l s : ℕ) → 0 < l → 0 < wholeOf t l s
@@ -38,7 +38,7 @@ whole-some true l zero h = omega arith
 whole-some true l (suc s) h = mul-pos {m = 8 * l} {n = suc s} (omega arith) (omega arith)
 whole-some false l s h = omega arith
 
-pub whole-fits : (t : Bool) (l s : ℕ) → 0 < l → s ≤ l → l ≤ 8191 → (0 < wholeOf t l s) × (wholeOf t l s ≤ 2 ^ 30)
+pub whole-fits : (t : Bool) (l s : ℕ) → 0 < l → s ≤ l → l ≤ offsetMost → (0 < wholeOf t l s) × (wholeOf t l s ≤ 2 ^ 30)
 whole-fits t l s p h k = (whole-some t l s p, whole-most t l s k h)
 
 pub record Covers (c : Rows) (d : ℕ) : Type 0 where
@@ -46,7 +46,7 @@ pub record Covers (c : Rows) (d : ℕ) : Type 0 where
   pub middle : Coverage (c .middle) d
   pub lower : Coverage (c .lower) d
 
-pub rows-cover : (t l s : ℕ) (exact : Bool) (c : Rows) → 0 < l → s ≤ l → l ≤ 8191 → Filled t (wholeOf exact l s) c → Covers c (wholeOf exact l s)
+pub rows-cover : (t l s : ℕ) (exact : Bool) (c : Rows) → 0 < l → s ≤ l → l ≤ offsetMost → Filled t (wholeOf exact l s) c → Covers c (wholeOf exact l s)
 rows-cover t l s exact c p h k e =
     let w = whole-fits exact l s p h k in
     record {

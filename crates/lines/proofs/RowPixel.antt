@@ -8,6 +8,8 @@ use native.Mathlib.Omega.{arith}
 use lib.Dec.{leb, ltb, eqb}
 use lib.ListN.{length}
 use borrow.Author.Tests.{eq-eqb, ne-eqb, le-leb, lt-ltb, leb-true, ltb-true}
+use Rattle.coverage.specs.inner.Frame.{rowOrigin, rowBy}
+use Rattle.numbers.specs.inner.Offset.{origin, offsetMost}
 use Rattle.numbers.proofs.Order.{eq-or-ne}
 use Rattle.coverage.specs.declared.line.Frame.{Frame}
 use Rattle.page.specs.inner.Paint.{clipped, Lawful, Drawn}
@@ -15,7 +17,7 @@ use Rattle.page.specs.declared.View.{View}
 use Rattle.page.proofs.Clip.{Inside, Outside, in-or-out, clip-in, clip-out}
 use Rattle.page.proofs.Paint.{row-end}
 use Rattle.page.proofs.Drawn.{drawn-none, drawn-one}
-use Rattle.lines.specs.inner.Layout.{alongFrom, alongEnd, strip, rowAt, byteAt, Laid, shown, spotted, counted}
+use Rattle.lines.specs.inner.Layout.{alongFrom, alongEnd, strip, rowOn, byteAt, Laid, shown, spotted, counted, acrossBy, edgeBy}
 use Rattle.lines.specs.declared.layout.Layout.{Layout}
 
 -- pixel (x, y) is that of column p and row g
@@ -23,26 +25,26 @@ pub record Pixel (c : View) (f : Frame) (lay : Layout) (p g x y : ℕ) : Type 0 
   pub x-less : x < c .w
   pub y-less : y < c .h
   pub along-is : cond (f .steep) y x ≡ p
-  pub row-is : rowAt f x y ≡ g
+  pub row-is : rowOn f x y ≡ g
   pub byte-is : byteAt f lay p g ≡ y * c .w + x + lay .origin
   pub in-strip : (n : ℕ → ℕ → ℕ) → strip c f p (p + 1) n x y ≡ n x y
-  pub alone : (n : ℕ → ℕ → ℕ) (x′ y′ : ℕ) → rowAt f x′ y′ ≡ g → ((x′ ≡ x) × (y′ ≡ y) → ⊥) → strip c f p (p + 1) n x′ y′ ≡ 0
+  pub alone : (n : ℕ → ℕ → ℕ) (x′ y′ : ℕ) → rowOn f x′ y′ ≡ g → ((x′ ≡ x) × (y′ ≡ y) → ⊥) → strip c f p (p + 1) n x′ y′ ≡ 0
 
 -- the page's pixel across a column at row g of a frame with its first end at offset y
 abbrev acrossAt : Bool → ℕ → ℕ → ℕ
-acrossAt falls y g = cond falls (y + 12287 - g) (g + y - 20480)
+acrossAt falls y g = cond falls (y + (rowOrigin - origin - 1) - g) (g + y - (rowOrigin + origin))
 
 -- b is that pixel, within r0 to r1
 record Across (falls : Bool) (y g r0 r1 b : ℕ) : Type 0 where
   least : r0 ≤ b
   less : b < r1
-  row-is : cond falls (y + 12287 - b) (b + 20480 - y) ≡ g
-  byte-is : cond falls (y + 32767 - g) (y + g) ≡ b + 20480
-  alone : (b′ : ℕ) → b′ < r1 → cond falls (y + 12287 - b′) (b′ + 20480 - y) ≡ g → b′ ≡ b
+  row-is : rowBy falls y (b + origin) ≡ g
+  byte-is : acrossBy falls y g ≡ b + (rowOrigin + origin)
+  alone : (b′ : ℕ) → b′ < r1 → rowBy falls y (b′ + origin) ≡ g → b′ ≡ b
 
-across-is : (falls : Bool) (y g r0 r1 low high : ℕ) → y ≤ 8191 → r1 ≤ 1024 → r0 ≤ r1
-    → low ≡ cond falls (y + 12288 - r1) (r0 + 20480 - y)
-    → high ≡ cond falls (y + 12288 - r0) (r1 + 20480 - y)
+across-is : (falls : Bool) (y g r0 r1 low high : ℕ) → y ≤ offsetMost → r1 ≤ 1024 → r0 ≤ r1
+    → low ≡ edgeBy falls y r1 r0
+    → high ≡ edgeBy falls y r0 r1
     → low ≤ g
     → g < high
     → Across falls y g r0 r1 (acrossAt falls y g)
@@ -55,7 +57,7 @@ across-is false y g r0 r1 low high hy hr h el eh lo hi =
 abbrev frame : (l s : ℕ) (steep falls : Bool) (x y : ℕ) → Frame
 frame l s steep falls x y = record { l = l; s = s; steep = steep; falls = falls; x = x; y = y }
 
-pixel : (c : View) (l s : ℕ) (steep falls : Bool) (x y : ℕ) (lay : Layout) (size p g : ℕ) → Lawful c size → Laid c (frame l s steep falls x y) lay → y ≤ 8191
+pixel : (c : View) (l s : ℕ) (steep falls : Bool) (x y : ℕ) (lay : Layout) (size p g : ℕ) → Lawful c size → Laid c (frame l s steep falls x y) lay → y ≤ offsetMost
     → alongFrom c (frame l s steep falls x y) ≤ p → p < alongEnd c (frame l s steep falls x y) → lay .low ≤ g → g < lay .high
     → Pixel c (frame l s steep falls x y) lay p g (cond steep (acrossAt falls y g) p) (cond steep p (acrossAt falls y g))
 unfolding strip
@@ -73,8 +75,8 @@ pixel c l s false falls x y lay size p g w d hy h k lo hi =
     }
   where
     other : (n : ℕ → ℕ → ℕ) (x′ y′ : ℕ) → Inside p (c .y0) (p + 1) (c .y1) x′ y′ ⊎ Outside p (c .y0) (p + 1) (c .y1) x′ y′
-        → (y′ < c .y1 → cond falls (y + 12287 - y′) (y′ + 20480 - y) ≡ g → y′ ≡ acrossAt falls y g)
-        → cond falls (y + 12287 - y′) (y′ + 20480 - y) ≡ g
+        → (y′ < c .y1 → rowBy falls y (y′ + origin) ≡ g → y′ ≡ acrossAt falls y g)
+        → rowBy falls y (y′ + origin) ≡ g
         → ((x′ ≡ p) × (y′ ≡ acrossAt falls y g) → ⊥)
         → clipped p (c .y0) (p + 1) (c .y1) n x′ y′ ≡ 0
     other n x′ y′ (inl i) same e ne = absurd (ne (omega (arith, i .left, i .right), same (i .bottom) e))
@@ -93,25 +95,25 @@ pixel c l s true falls x y lay size p g w d hy h k lo hi =
     }
   where
     other : (n : ℕ → ℕ → ℕ) (x′ y′ : ℕ) → Inside (c .x0) p (c .x1) (p + 1) x′ y′ ⊎ Outside (c .x0) p (c .x1) (p + 1) x′ y′
-        → (x′ < c .x1 → cond falls (y + 12287 - x′) (x′ + 20480 - y) ≡ g → x′ ≡ acrossAt falls y g)
-        → cond falls (y + 12287 - x′) (x′ + 20480 - y) ≡ g
+        → (x′ < c .x1 → rowBy falls y (x′ + origin) ≡ g → x′ ≡ acrossAt falls y g)
+        → rowBy falls y (x′ + origin) ≡ g
         → ((x′ ≡ acrossAt falls y g) × (y′ ≡ p) → ⊥)
         → clipped (c .x0) p (c .x1) (p + 1) n x′ y′ ≡ 0
     other n x′ y′ (inl i) same e ne = absurd (ne (same (i .right) e, omega (arith, i .top, i .bottom)))
     other n x′ y′ (inr o) same e ne = clip-out (c .x0) p (c .x1) (p + 1) n x′ y′ o
 
 -- a pixel of the clip has its row among those that are shown
-row-shown : (falls : Bool) (y r0 r1 low high b : ℕ) → y ≤ 8191 → r1 ≤ 1024
-    → low ≡ cond falls (y + 12288 - r1) (r0 + 20480 - y)
-    → high ≡ cond falls (y + 12288 - r0) (r1 + 20480 - y)
+row-shown : (falls : Bool) (y r0 r1 low high b : ℕ) → y ≤ offsetMost → r1 ≤ 1024
+    → low ≡ edgeBy falls y r1 r0
+    → high ≡ edgeBy falls y r0 r1
     → r0 ≤ b
     → b < r1
-    → (low ≤ cond falls (y + 12287 - b) (b + 20480 - y)) × (cond falls (y + 12287 - b) (b + 20480 - y) < high)
+    → (low ≤ rowBy falls y (b + origin)) × (rowBy falls y (b + origin) < high)
 row-shown true y r0 r1 low high b hy hr el eh h k = (omega arith, omega arith)
 row-shown false y r0 r1 low high b hy hr el eh h k = (omega arith, omega arith)
 
-hidden : (c : View) (l s : ℕ) (steep falls : Bool) (x y : ℕ) (lay : Layout) (size p e : ℕ) (n : ℕ → ℕ → ℕ) (x′ y′ : ℕ) → Lawful c size → Laid c (frame l s steep falls x y) lay → y ≤ 8191
-    → ((lay .low ≤ rowAt (frame l s steep falls x y) x′ y′) × (rowAt (frame l s steep falls x y) x′ y′ < lay .high) → ⊥)
+hidden : (c : View) (l s : ℕ) (steep falls : Bool) (x y : ℕ) (lay : Layout) (size p e : ℕ) (n : ℕ → ℕ → ℕ) (x′ y′ : ℕ) → Lawful c size → Laid c (frame l s steep falls x y) lay → y ≤ offsetMost
+    → ((lay .low ≤ rowOn (frame l s steep falls x y) x′ y′) × (rowOn (frame l s steep falls x y) x′ y′ < lay .high) → ⊥)
     → strip c (frame l s steep falls x y) p e n x′ y′ ≡ 0
 unfolding strip
 hidden c l s false falls x y lay size p e n x′ y′ w d hy out = go (in-or-out p (c .y0) e (c .y1) x′ y′)
@@ -131,23 +133,23 @@ both-true true true e = (refl, refl)
 both-true true false e = absurd (let z : _≡_ {A = ℕ} 0 1 = cc in omega arith)
 both-true false b e = absurd (let z : _≡_ {A = ℕ} 0 1 = cc in omega arith)
 
-module _ (c : View) (f : Frame) (lay : Layout) (size p : ℕ) (w : Lawful c size) (d : Laid c f lay) (hy : f .y ≤ 8191) (from : alongFrom c f ≤ p) (end : p < alongEnd c f) (n : ℕ → ℕ → ℕ) where
+module _ (c : View) (f : Frame) (lay : Layout) (size p : ℕ) (w : Lawful c size) (d : Laid c f lay) (hy : f .y ≤ offsetMost) (from : alongFrom c f ≤ p) (end : p < alongEnd c f) (n : ℕ → ℕ → ℕ) where
   -- the column's coverage, and that of its row g alone
   abbrev column : ℕ → ℕ → ℕ
   column = strip c f p (p + 1) n
 
   abbrev pub only : ℕ → ℕ → ℕ → ℕ
-  only g x y = cond (eqb (rowAt f x y) g) (column x y) 0
+  only g x y = cond (eqb (rowOn f x y) g) (column x y) 0
 
   shown-not : (g x y : ℕ) → shown lay g ≡ false → only g x y ≡ 0
-  shown-not g x y e = go (eq-or-ne (rowAt f x y) g)
+  shown-not g x y e = go (eq-or-ne (rowOn f x y) g)
     where
-      go : (rowAt f x y ≡ g) ⊎ (rowAt f x y ≡ g → ⊥) → only g x y ≡ 0
+      go : (rowOn f x y ≡ g) ⊎ (rowOn f x y ≡ g → ⊥) → only g x y ≡ 0
       go (inl q) =
-          ap (λ (t : Bool). cond t (column x y) 0) (eq-eqb (rowAt f x y) g q)
+          ap (λ (t : Bool). cond t (column x y) 0) (eq-eqb (rowOn f x y) g q)
           ∙ hidden c (f .l) (f .s) (f .steep) (f .falls) (f .x) (f .y) lay size p (p + 1) n x y w d hy
           (λ b. let z : _≡_ {A = ℕ} 0 1 = cc (le-leb (lay .low) g (omega (arith, b .0)), lt-ltb g (lay .high) (omega (arith, b .1))) in omega arith)
-      go (inr q) = ap (λ (t : Bool). cond t (column x y) 0) (ne-eqb (rowAt f x y) g q)
+      go (inr q) = ap (λ (t : Bool). cond t (column x y) 0) (ne-eqb (rowOn f x y) g q)
 
   pub spot-drawn : (ink : ℕ → ℕ → ℕ) (g m k : ℕ) (l : List ℕ) → c .h * c .w ≤ length l → k ≡ byteAt f lay p g
       → ((x y : ℕ) → Pixel c f lay p g x y → n x y ≡ m)
@@ -161,17 +163,17 @@ module _ (c : View) (f : Frame) (lay : Layout) (size p : ℕ) (w : Lawful c size
           let q = pixel c (f .l) (f .s) (f .steep) (f .falls) (f .x) (f .y) lay size p g w d hy from end (leb-true (lay .low) g (b .0)) (ltb-true g (lay .high) (b .1)) in
           let x : ℕ = cond (f .steep) (acrossAt (f .falls) (f .y) g) p in
           let y : ℕ = cond (f .steep) p (acrossAt (f .falls) (f .y) g) in
-          let here : only g x y ≡ m = ap (λ (t : Bool). cond t (column x y) 0) (eq-eqb (rowAt f x y) g (q .row-is)) ∙ q .in-strip n ∙ is x y q in
+          let here : only g x y ≡ m = ap (λ (t : Bool). cond t (column x y) 0) (eq-eqb (rowOn f x y) g (q .row-is)) ∙ q .in-strip n ∙ is x y q in
           let place : k - lay .origin ≡ y * c .w + x = omega (arith, q .byte-is) in
           rw (place, ← here)
-          (drawn-one (c .w) (c .h) ink x y (only g) l (q .x-less) (q .y-less) room (λ x′ y′ ne. elsewhere q x′ y′ ne (eq-or-ne (rowAt f x′ y′) g)))
+          (drawn-one (c .w) (c .h) ink x y (only g) l (q .x-less) (q .y-less) room (λ x′ y′ ne. elsewhere q x′ y′ ne (eq-or-ne (rowOn f x′ y′) g)))
         where
-          elsewhere : {x y : ℕ} → Pixel c f lay p g x y → (x′ y′ : ℕ) → ((x′ ≡ x) × (y′ ≡ y) → ⊥) → (rowAt f x′ y′ ≡ g) ⊎ (rowAt f x′ y′ ≡ g → ⊥) → only g x′ y′ ≡ 0
-          elsewhere q x′ y′ ne (inl r) = ap (λ (t : Bool). cond t (column x′ y′) 0) (eq-eqb (rowAt f x′ y′) g r) ∙ q .alone n x′ y′ r ne
-          elsewhere q x′ y′ ne (inr r) = ap (λ (t : Bool). cond t (column x′ y′) 0) (ne-eqb (rowAt f x′ y′) g r)
+          elsewhere : {x y : ℕ} → Pixel c f lay p g x y → (x′ y′ : ℕ) → ((x′ ≡ x) × (y′ ≡ y) → ⊥) → (rowOn f x′ y′ ≡ g) ⊎ (rowOn f x′ y′ ≡ g → ⊥) → only g x′ y′ ≡ 0
+          elsewhere q x′ y′ ne (inl r) = ap (λ (t : Bool). cond t (column x′ y′) 0) (eq-eqb (rowOn f x′ y′) g r) ∙ q .alone n x′ y′ r ne
+          elsewhere q x′ y′ ne (inr r) = ap (λ (t : Bool). cond t (column x′ y′) 0) (ne-eqb (rowOn f x′ y′) g r)
 
 -- a row that is shown has its byte on the page
-pub byte-on-page : (c : View) (f : Frame) (lay : Layout) (size p : ℕ) → Lawful c size → Laid c f lay → f .y ≤ 8191 → alongFrom c f ≤ p → p < alongEnd c f
+pub byte-on-page : (c : View) (f : Frame) (lay : Layout) (size p : ℕ) → Lawful c size → Laid c f lay → f .y ≤ offsetMost → alongFrom c f ≤ p → p < alongEnd c f
     → (g : ℕ) → shown lay g ≡ true → (lay .origin ≤ byteAt f lay p g) × (byteAt f lay p g - lay .origin < size)
 byte-on-page c f lay size p w d hy from end g e =
     let b = both-true (leb (lay .low) g) (ltb g (lay .high)) e in

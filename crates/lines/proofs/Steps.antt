@@ -9,7 +9,7 @@ use native.Mathlib.Omega.{arith}
 use lib.Dec.{leb}
 use lib.ListN.{length, getD, set}
 use borrow.Author.Tests.{le-leb, lt-ltb}
-use Rattle.numbers.specs.inner.Offset.{origin}
+use Rattle.numbers.specs.inner.Offset.{origin, offsetMost}
 use Rattle.coverage.specs.inner.Rows.{rowsOf, cutExcess}
 use Rattle.coverage.specs.declared.line.Frame.{Frame}
 use Rattle.coverage.specs.declared.line.Rows.{Rows}
@@ -66,7 +66,7 @@ module _ {s : Stroke} {size : ℕ} {at : Step} (here : Steppable s at size) wher
       (rows-cover (cutExcess (f .l) (f .s) (at .r)) (f .l) (f .s) (s .line .exact) rowsHere (ready .framed .long) (ready .framed .short) (omega (arith, ready .framed .right)) (rw (ready .d-is) at filled))
 
   -- what the next column asks
-  pub advances : (f .l ≤ 8191) × (f .s ≤ f .l) × (at .r < 2 * f .l) × (lay .across ≤ at .k) × (at .k + lay .across + lay .along < 2 ^ 63) × (at .g ≤ 65535) × (at .p ≤ 1024) × (at .touched ≤ 65535)
+  pub advances : (f .l ≤ offsetMost) × (f .s ≤ f .l) × (at .r < 2 * f .l) × (lay .across ≤ at .k) × (at .k + lay .across + lay .along < 2 ^ 63) × (at .g ≤ 65535) × (at .p ≤ 1024) × (at .touched ≤ 65535)
   advances =
       let o = layout-le (s .view) f lay size (ready .lawful) (ready .laid) in
       let k = k-most (s .view) (s .line) f lay size (at .p) (at .k) (at .g) (at .r) (ready .lawful) (ready .framed) (ready .laid) (stand .left) end (stand .first) last (stand .is) in

@@ -1,25 +1,24 @@
 -- Laws of strips: the columns of a line's frame under a clip.
 use mathlib.Core.Bool.{Bool, true, false, cond}
-use mathlib.Core.Path.{_≡_, sym, ap, _∙_}
+use mathlib.Core.Path.{_≡_, sym}
 use mathlib.Core.Logic.{_⊎_, inl, inr, ⊎-elim}
 use Prim.Native.Nat.{ℕ, _+_, _-_, _≤_, _<_, max, min}
 use native.Mathlib.Omega.{arith}
 use lib.IntN.{pos, subℕ}
 use Rattle.numbers.specs.inner.Offset.{origin, offsetOf}
 use Rattle.numbers.proofs.Order.{lt-or-le}
-use Rattle.numbers.proofs.Integer.{sub-same}
 use Rattle.numbers.proofs.Coordinate.{InRange, in-range, pixel-in, pixel-offset}
 use Rattle.shapes.specs.declared.Line.{Line}
 use Rattle.coverage.specs.Line.{rowOf, restOf}
 use Rattle.coverage.specs.inner.Rows.{rowsOf, atRow}
-use Rattle.coverage.specs.inner.Frame.{Framed}
+use Rattle.coverage.specs.inner.Frame.{Framed, rowOrigin}
 use Rattle.coverage.specs.declared.line.Frame.{Frame}
 use Rattle.coverage.specs.declared.line.Rows.{Rows}
 use Rattle.coverage.proofs.Pixel.{drawn-left, drawn-right, drawn-inside}
 use Rattle.page.specs.inner.Paint.{clipped, inView, Lawful}
 use Rattle.page.specs.declared.View.{View}
 use Rattle.page.proofs.Clip.{Inside, Outside, in-or-out, left-of, right-of, above, below, clip-in, clip-out, clip-shrink, clip-columns, clip-rows, Join}
-use Rattle.lines.specs.inner.Layout.{lineOn, alongFrom, alongEnd, strip, rowAt}
+use Rattle.lines.specs.inner.Layout.{lineOn, alongFrom, alongEnd, strip, rowOn}
 
 -- ---- strips of any coverage
 module _ (c : View) (f : Frame) (n : ℕ → ℕ → ℕ) where
@@ -126,18 +125,6 @@ module _ {n : Line} {f : Frame} (g : Framed n f) (x y : ℕ) (hx : x ≤ 4095) (
   pub line-right : f .x + f .l ≤ a + origin → lineOn n x y ≡ 0
   line-right h = sym (drawn-right g px py (rw along-offset h))
 
-  -- rows counted from 16,384 instead of 8,192
-  row-shift : rowAt f x y ≡ cond (f .falls) (f .y + 8191 - (cond (f .steep) x y + origin)) (cond (f .steep) x y + origin + 8192 - f .y) + 8192
-  row-shift = by (f .falls) (cond (f .steep) x y) (most (f .steep))
-    where
-      most : (t : Bool) → cond t x y ≤ 4095
-      most true = hx
-      most false = hy
-
-      by : (t : Bool) (b : ℕ) → b ≤ 4095 → cond t (f .y + 12287 - b) (b + 20480 - f .y) ≡ cond t (f .y + 8191 - (b + origin)) (b + origin + 8192 - f .y) + 8192
-      by true b h = omega arith
-      by false b h = omega (arith, g .high)
-
   -- in its columns, what the closed rows have
   abbrev i : ℕ
   i = a + origin - f .x
@@ -147,12 +134,8 @@ module _ {n : Line} {f : Frame} (g : Framed n f) (x y : ℕ) (hx : x ≤ 4095) (
 
   pub line-inside : f .x ≤ a + origin → a + origin < f .x + f .l
       → lineOn n x y
-      ≡ atRow rows (subℕ (rowAt f x y) (16384 + rowOf (f .l) (f .s) i))
-  line-inside h k =
-      let q : ℕ = rowOf (f .l) (f .s) i in
-      let low : ℕ = cond (f .falls) (f .y + 8191 - (cond (f .steep) x y + origin)) (cond (f .steep) x y + origin + 8192 - f .y) in
-      let e = drawn-inside g px py (rw along-offset h) (rw along-offset k) in
-      sym (rw (along-offset, across-offset) at e) ∙ ap (atRow rows) (sub-same low (8192 + q) (rowAt f x y) (16384 + q) (omega (arith, row-shift)))
+      ≡ atRow rows (subℕ (rowOn f x y) (rowOrigin + rowOf (f .l) (f .s) i))
+  line-inside h k = sym (rw (along-offset, across-offset) at (drawn-inside g px py (rw along-offset h) (rw along-offset k)))
 
 -- ---- a line lies in its own columns
 

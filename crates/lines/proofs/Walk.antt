@@ -11,7 +11,7 @@ use Rattle.numbers.specs.inner.Offset.{origin}
 use Rattle.numbers.proofs.Order.{lt-or-le}
 use Rattle.page.specs.inner.Paint.{Drawn}
 use Rattle.page.proofs.Drawn.{drawn-join}
-use Rattle.lines.specs.inner.Layout.{lineOn, lineInk, alongFrom, strip, At}
+use Rattle.lines.specs.inner.Layout.{lineOn, lineInk, alongFrom, strip, At, edgeBy}
 use Rattle.lines.specs.inner.Stroke.{Prepared, Standing, EndInside, Extended}
 use Rattle.lines.specs.declared.step.Step.{Step}
 use Rattle.lines.specs.declared.step.Stroke.{Stroke}
@@ -46,7 +46,7 @@ module _ {s : Stroke} where
 pub high-least : (s : Stroke) (size : ℕ) → Prepared s size → 2 ≤ s .layout .high
 high-least s size r = rw (r .laid .high-is) (go (s .frame .falls) (s .frame .steep))
   where
-    go : (t u : Bool) → 2 ≤ cond t (s .frame .y + 12288 - cond u (s .view .x0) (s .view .y0)) (cond u (s .view .x1) (s .view .y1) + 20480 - s .frame .y)
+    go : (t u : Bool) → 2 ≤ edgeBy t (s .frame .y) (cond u (s .view .x0) (s .view .y0)) (cond u (s .view .x1) (s .view .y1))
     go true true = omega (arith, r .lawful .x-order, r .lawful .x-most, r .lawful .w-most)
     go true false = omega (arith, r .lawful .y-order, r .lawful .y-most, r .lawful .h-most)
     go false u = omega (arith, r .framed .high)

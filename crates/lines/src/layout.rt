@@ -4,10 +4,21 @@ use page::View;
 ghost use mathlib.Core.Bool.{cond};
 ghost use mathlib.Core.Path.{_≡_};
 ghost use Prim.Native.Nat.{_+_, _^_, _≤_, _<_};
+ghost use Rattle.numbers.specs.inner.Offset.{offsetMost};
 ghost use Rattle.lines.specs.inner.Layout.{Laid, shown, raised, lowered};
 
 // The offset of coordinate 0, as an index.
 pub const ORIGIN: usize = numbers::ORIGIN as usize;
+
+// Row 0 of a frame, as an index.
+pub const ROW_ORIGIN: usize = coverage::line::ROW_ORIGIN as usize;
+
+// The last row; the row of pixel 0 over a first end at offset 0; and the same where rows are mirrored.
+pub const LAST_ROW: usize = 2 * ROW_ORIGIN - 1;
+
+const RAISED: usize = ROW_ORIGIN + ORIGIN;
+
+const MIRRORED: usize = ROW_ORIGIN - ORIGIN;
 
 // How a line's frame lies on a page: the bytes from one column to the next and from one row to the next, whether rows are mirrored,
 // the clip's rows, and what is added to a byte's index.
@@ -29,7 +40,7 @@ pub fn either(first: bool, a: usize, b: usize) -> usize
 
 // How a frame lies on a page.
 pub fn layout_of(view: View, f: Frame) -> Layout
-    requires { ⌜ (view .w ≤ 1024) × (view .x0 ≤ 1024) × (view .y0 ≤ 1024) × (view .x1 ≤ 1024) × (view .y1 ≤ 1024) × (f .y ≤ 8191) ⌝ }
+    requires { ⌜ (view .w ≤ 1024) × (view .x0 ≤ 1024) × (view .y0 ≤ 1024) × (view .x1 ≤ 1024) × (view .y1 ≤ 1024) × (f .y ≤ offsetMost) ⌝ }
     ensures { λ lay. ⌜ Laid view f lay ⌝ }
 {
     let along = either(f.steep, view.w, 1);
@@ -41,9 +52,9 @@ pub fn layout_of(view: View, f: Frame) -> Layout
         along,
         across,
         falls: f.falls,
-        low: either(f.falls, y + 12288 - end, from + 20480 - y),
-        high: either(f.falls, y + 12288 - from, end + 20480 - y),
-        origin: ORIGIN * along + 20480 * across,
+        low: either(f.falls, y + MIRRORED - end, from + RAISED - y),
+        high: either(f.falls, y + MIRRORED - from, end + RAISED - y),
+        origin: ORIGIN * along + RAISED * across,
     }
 }
 

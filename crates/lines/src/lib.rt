@@ -11,7 +11,7 @@ ghost use mathlib.Core.Path.{_≡_};
 ghost use Prim.Native.Nat.{_+_, _-_, _≤_, _<_, min, max};
 ghost use lib.Dec.{leb, ltb};
 ghost use lib.ListN.{length};
-ghost use Rattle.numbers.specs.inner.Offset.{origin};
+ghost use Rattle.numbers.specs.inner.Offset.{origin, offsetMost};
 ghost use Rattle.shapes.specs.Limits.{shapeRefusal};
 ghost use Rattle.shapes.specs.declared.Shape.the-variants.{Line as asShape};
 ghost use Rattle.coverage.specs.inner.Frame.{Framed};
@@ -93,7 +93,7 @@ pub fn draw_columns(
 
 // The columns of a line that lie within the clip's.
 fn columns_of(view: View, f: Frame) -> Span
-    requires { ⌜ f .x + f .l ≤ 8191 ⌝ }
+    requires { ⌜ f .x + f .l ≤ offsetMost ⌝ }
     ensures { λ r. ⌜ (r .from ≡ max (alongFrom view f) (f .x - origin)) × (r .end ≡ min (alongEnd view f) (f .x + f .l - origin)) ⌝ }
 {
     let first = layout::either(f.steep, view.y0, view.x0);

@@ -8,7 +8,7 @@ ghost use mathlib.Core.Bool.{true};
 ghost use mathlib.Core.Path.{_≡_};
 ghost use Prim.Native.Nat.{_+_, _*_, _-_, _^_, _≤_, _<_};
 ghost use lib.ListN.{length};
-ghost use Rattle.numbers.specs.inner.Offset.{origin};
+ghost use Rattle.numbers.specs.inner.Offset.{origin, offsetMost};
 ghost use Rattle.page.specs.inner.Ink.{inkOf, Coverage, Reciprocal};
 ghost use Rattle.lines.specs.inner.Layout.{spotted, counted, columned, columnCount, Reachable, At, Advanced};
 ghost use Rattle.lines.specs.inner.Stroke.{Steppable, Inner, Stepped};
@@ -36,13 +36,13 @@ pub struct Step {
 
 // Where a walk that begins at column p stands.
 pub fn first_step(lay: Layout, f: Frame, p: usize) -> Step
-    requires { ⌜ (f .l ≤ 8191) × (f .s ≤ f .l) × (f .x ≤ p + origin) × (p + origin < f .x + f .l) × (p ≤ 1024) × (f .y ≤ 8191) × (lay .along ≤ 1024) × (lay .across ≤ 1024) × (lay .falls ≡ f .falls) ⌝ }
+    requires { ⌜ (f .l ≤ offsetMost) × (f .s ≤ f .l) × (f .x ≤ p + origin) × (p + origin < f .x + f .l) × (p ≤ 1024) × (f .y ≤ offsetMost) × (lay .along ≤ 1024) × (lay .across ≤ 1024) × (lay .falls ≡ f .falls) ⌝ }
     ensures { λ at. ⌜ At f lay p (at .k) (at .g) (at .r) × (at .p ≡ p) × (at .touched ≡ 0) ⌝ }
 {
     let c = coverage::line::crossing_at(f.l, f.s, (p as u64) + numbers::ORIGIN - f.x);
-    let g = 16384 + (c.q as usize);
+    let g = layout::ROW_ORIGIN + (c.q as usize);
     let y = f.y as usize;
-    let row = layout::either(lay.falls, y + 32767 - g, y + g);
+    let row = layout::either(lay.falls, y + layout::LAST_ROW - g, y + g);
     Step {
         p,
         k: (p + layout::ORIGIN) * lay.along + row * lay.across,
@@ -54,7 +54,7 @@ pub fn first_step(lay: Layout, f: Frame, p: usize) -> Step
 
 // The next column, after one that touched t pixels: one row further where the rest comes to a whole row.
 fn advanced(lay: Layout, f: Frame, at: Step, t: u64) -> Step
-    requires { ⌜ (f .l ≤ 8191) × (f .s ≤ f .l) × (at .r < 2 * f .l) × (lay .across ≤ at .k) × (at .k + lay .across + lay .along < 2 ^ 63) × (at .g ≤ 65535) × (at .p ≤ 1024) × (at .touched ≤ 65535) ⌝ }
+    requires { ⌜ (f .l ≤ offsetMost) × (f .s ≤ f .l) × (at .r < 2 * f .l) × (lay .across ≤ at .k) × (at .k + lay .across + lay .along < 2 ^ 63) × (at .g ≤ 65535) × (at .p ≤ 1024) × (at .touched ≤ 65535) ⌝ }
     requires { ⌜ t ≤ 3 ⌝ }
     ensures { λ to. ⌜ Advanced lay (2 * f .l) (2 * f .s) (at .k) (at .g) (at .r) (to .k) (to .g) (to .r) × (to .p ≡ at .p + 1) × (to .touched ≡ at .touched + t) ⌝ }
 {

@@ -3,7 +3,7 @@ use Prim.Native.Nat.{_*_, _-_, _<_}
 use native.Mathlib.Omega.{arith}
 use Rattle.numbers.proofs.Order.{square-le}
 use Rattle.coverage.specs.Circle.{heightOf}
-use Rattle.coverage.specs.inner.Circle.{Around}
+use Rattle.coverage.specs.inner.Circle.{radiusMost, Around}
 use Rattle.coverage.proofs.Height.{height-beyond}
 use Rattle.coverage.proofs.Chord.{around-start}
 use Rattle.coverage.proofs.circle.height_at.Statement.{statement}
@@ -19,16 +19,16 @@ returns : tie.Need-returns Inv-loop μ-loop
 returns c = sym (height-beyond (c .before .args .radius) (c .before .args .k) (omega arith))
 
 mul-m : tie.Need-mul-m Inv-loop μ-loop
-mul-m c = omega (arith, square-le {a = c .before .args .radius} {b = 255} (omega arith))
+mul-m c = omega (arith, square-le {a = c .before .args .radius} {b = radiusMost} (omega arith))
 
 mul-m-2 : tie.Need-mul-m-2 Inv-loop μ-loop
-mul-m-2 c = omega (arith, square-le {a = c .before .args .k} {b = 255} (omega arith))
+mul-m-2 c = omega (arith, square-le {a = c .before .args .k} {b = radiusMost} (omega arith))
 
 sub-m : tie.Need-sub-m Inv-loop μ-loop
 sub-m c = square-le {a = c .before .args .k} {b = c .before .args .radius} (omega arith)
 
 mul-m-3 : tie.Need-mul-m-3 Inv-loop μ-loop
-mul-m-3 c = omega (arith, square-le {a = c .before .args .radius} {b = 255} (omega arith))
+mul-m-3 c = omega (arith, square-le {a = c .before .args .radius} {b = radiusMost} (omega arith))
 
 mul-high : tie.Need-mul-high Inv-loop μ-loop
 mul-high c = omega arith

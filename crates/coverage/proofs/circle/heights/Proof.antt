@@ -7,6 +7,7 @@ use lib.ListN.{length, getD, set, replicate, length-set}
 use lib.Seq.{getD-set-same, getD-set-other}
 use borrow.Author.Count.{below-more}
 use borrow.Author.Needs.{needs}
+use Rattle.coverage.specs.inner.Circle.{radiusMost, heightsHeld}
 use Rattle.numbers.proofs.Order.{lt-or-le, square-le}
 use Rattle.coverage.specs.Circle.{halfRoot, heightOf}
 use Rattle.coverage.proofs.Height.{half-root-le, half-root-from, half-root-high, height-top, height-beyond}
@@ -18,7 +19,7 @@ Inv-loop radius hs₀ y₀ step₀ k₀ hs y step k =
     (k ≤ radius)
     × (y ≤ 256 * radius)
     × (262144 * (radius * radius - k * k) < (2 * y + 1) * (2 * y + 1))
-    × (length hs ≡ 257)
+    × (length hs ≡ heightsHeld)
     × ((j : ℕ) → j < k → getD hs j 0 ≡ heightOf radius j)
     × ((j : ℕ) → k ≤ j → getD hs j 0 ≡ 0)
 
@@ -63,20 +64,20 @@ loop-holds c = (
   height-top (c .args .radius) 0,
   refl,
   λ j h. absurd (omega arith),
-  λ j h. zeros 257 j,
+  λ j h. zeros heightsHeld j,
 )
 
 mul-m : tie.Need-mul-m Inv-loop μ-loop
-mul-m c = omega (arith, square-le {a = c .before .before .args .radius} {b = 255} (omega arith))
+mul-m c = omega (arith, square-le {a = c .before .before .args .radius} {b = radiusMost} (omega arith))
 
 mul-m-2 : tie.Need-mul-m-2 Inv-loop μ-loop
-mul-m-2 c = omega (arith, square-le {a = c .before .loop .k} {b = 255} (omega arith))
+mul-m-2 c = omega (arith, square-le {a = c .before .loop .k} {b = radiusMost} (omega arith))
 
 sub-m : tie.Need-sub-m Inv-loop μ-loop
 sub-m c = square-le (omega arith)
 
 mul-m-3 : tie.Need-mul-m-3 Inv-loop μ-loop
-mul-m-3 c = omega (arith, square-le {a = c .before .before .args .radius} {b = 255} (omega arith))
+mul-m-3 c = omega (arith, square-le {a = c .before .before .args .radius} {b = radiusMost} (omega arith))
 
 search-start-requires : tie.Need-search-start-requires Inv-loop μ-loop
 search-start-requires c κs = search needs

@@ -1,6 +1,7 @@
 use mathlib.Core.Path.{_≡_}
-use Prim.Native.Nat.{_-_, _≤_}
+use Prim.Native.Nat.{_+_, _-_, _≤_}
 use native.Mathlib.Omega.{arith}
+use Rattle.numbers.specs.inner.Offset.{offsetMost}
 use Rattle.numbers.proofs.Coordinate.{in-range}
 use Rattle.shapes.specs.inner.Offsets.{pointOf}
 use Rattle.shapes.specs.declared.Shape.the-variants.{Ring as ring}
@@ -37,7 +38,7 @@ cast-chords-of : tie.Need-cast-chords-of
 cast-chords-of c = search needs
 
 -- both circles are asked for the same distances, which are near enough
-near : (c : tie.After-apart-of2) → (c .before .apart-of .result ≤ 8192) × (c .apart-of2 .result ≤ 8192)
+near : (c : tie.After-apart-of2) → (c .before .apart-of .result ≤ offsetMost + 1) × (c .apart-of2 .result ≤ offsetMost + 1)
 near c =
     let p = c .before .before in
     apart-le _ _ _ _ (p .before .point-of .ensures) (p .point-of2 .ensures) (c .before .apart-of .ensures) (c .apart-of2 .ensures)

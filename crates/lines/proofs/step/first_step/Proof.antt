@@ -3,6 +3,7 @@ use Prim.Native.Nat.{ℕ, _+_}
 use native.Mathlib.Nat.{mul-le-mul}
 use native.Mathlib.Omega.{arith}
 use borrow.Author.Needs.{needs}
+use Rattle.coverage.specs.inner.Frame.{rowOrigin}
 use Rattle.numbers.specs.inner.Offset.{origin}
 use Rattle.lines.proofs.step.first_step.Statement.{statement}
 use Rattle.lines.proofs.step.first_step.Tie as tie
@@ -52,7 +53,7 @@ returns : tie.Need-returns
 returns c = (
   record {
     k-is = rw (c .before .before .either .ensures .0, c .before .before .before .before .before .pre .8);
-    g-is = ap (λ (q : ℕ). 16384 + q) (c .before .before .before .crossing-at .ensures .0);
+    g-is = ap (λ (q : ℕ). rowOrigin + q) (c .before .before .before .crossing-at .ensures .0);
     r-is = c .before .before .before .crossing-at .ensures .1;
   },
   refl,
