@@ -6,8 +6,12 @@ use borrow.Author.Needs.{needs}
 use Rattle.circles.proofs.draw_between.Statement.{statement}
 use Rattle.circles.proofs.draw_between.Tie as tie
 
-box-of-requires : tie.Need-box-of-requires
-box-of-requires c κs = search needs
+-- the states behind the box and behind the heights
+abbrev boxed : tie.Else2 → tie.After-box-of
+boxed c = c .before .before .before .before
+
+abbrev held-heights : tie.After-heights2 → tie.Else2
+held-heights c = c .before .before
 
 returns : tie.Need-returns
 returns c =
@@ -23,44 +27,36 @@ returns-2 c =
     let test = rw (box .box-of .ensures) at (c .if2 .taken) in
     boxed-empty (s .args .view) (s .args .ring) (s .args .radius) (s .pre .0) _ _ _ (λ x y i. omega arith)
 
-heights-requires : tie.Need-heights-requires
-heights-requires c κs = search needs
-
-heights-requires-2 : tie.Need-heights-requires-2
-heights-requires-2 c κs = search needs
-
 draw-rows-requires : tie.Need-draw-rows-requires
 draw-rows-requires c κs =
     let hs = c .before .before .before in
-    let box = hs .before .before .before .before .before .before in
+    let box = boxed (held-heights hs) in
     let s = box .before .before in
     let outer = held (hs .before .heights .result) (s .args .radius) (hs .before .heights .ensures) in
     let inner = held (hs .heights2 .result) (s .args .ring .hole) (hs .heights2 .ensures) in
     rw (box .box-of .ensures, outer, inner)
     (boxed-ready (s .args .view) (s .args .ring) (s .args .radius) (s .pre .0) (omega arith) (omega arith) (omega arith))
 
-same-length : tie.Need-same-length
-same-length c = search needs
-
 returns-3 : tie.Need-returns-3
 returns-3 c =
-    let hs = c .before .before .before .before .before .before in
-    let box = hs .before .before .before .before .before .before in
+    let done = c .before .before in
+    let hs = done .before .before .before .before in
+    let box = boxed (held-heights hs) in
     let s = box .before .before in
     let outer = held (hs .before .heights .result) (s .args .radius) (hs .before .heights .ensures) in
     let inner = held (hs .heights2 .result) (s .args .ring .hole) (hs .heights2 .ensures) in
     boxed-drawn (s .args .view) (s .args .ring) (s .args .radius) (s .pre .0) _
-    (rw (box .box-of .ensures, outer, inner) at (c .before .before .draw-rows .ensures))
+    (rw (box .box-of .ensures, outer, inner) at (done .draw-rows .ensures))
 
 pub draw-between-spec : {M : Type 1} → statement M
 draw-between-spec =
     tie.close
     (tie.spec
-    box-of-requires
+    (λ c κs. search needs)
     returns
     returns-2
-    heights-requires
-    heights-requires-2
+    (λ c κs. search needs)
+    (λ c κs. search needs)
     draw-rows-requires
-    same-length
+    (λ c. search needs)
     returns-3)

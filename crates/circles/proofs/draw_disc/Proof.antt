@@ -23,21 +23,12 @@ centre c =
 abbrev start : tie.After-point-of → tie.Start
 start c = c .before .before .before .before
 
-point-of-requires : tie.Need-point-of-requires
-point-of-requires c κs = search needs
-
-cast-draw-between : tie.Need-cast-draw-between
-cast-draw-between c = search needs
-
 draw-between-requires : tie.Need-draw-between-requires
 draw-between-requires c κs =
     let p = c .before .before in
     let s = start p in
     let w = disc-lawful (s .args .disc) (s .pre .1) in
     (s .pre .0, rw (centre p) (omega (arith, w .x-in .less)), rw (centre p) (omega (arith, w .y-in .less)), omega arith, w .most)
-
-same-length : tie.Need-same-length
-same-length c = search needs
 
 returns : tie.Need-returns
 unfolding rulesOf
@@ -53,4 +44,4 @@ returns c =
     (d .draw-between .ensures)
 
 pub draw-disc-spec : {M : Type 1} → statement M
-draw-disc-spec = tie.close (tie.spec point-of-requires cast-draw-between draw-between-requires same-length returns)
+draw-disc-spec = tie.close (tie.spec (λ c κs. search needs) (λ c. search needs) draw-between-requires (λ c. search needs) returns)

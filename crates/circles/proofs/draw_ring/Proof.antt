@@ -20,9 +20,6 @@ centre c =
     let told = c .before .before .struct-told .given in
     point-kept (record { sfits = told .0 .1 }) (record { sfits = told .1 .0 .1 }) (c .point-of .ensures)
 
-point-of-requires : tie.Need-point-of-requires
-point-of-requires c κs = search needs
-
 -- the state at entry
 abbrev start : tie.After-point-of → tie.Start
 start c = c .before .before .before .before
@@ -30,21 +27,12 @@ start c = c .before .before .before .before
 sub-draw-between : tie.Need-sub-draw-between
 sub-draw-between c = let s = start (c .before) in ring-lawful (s .args .ring) (s .pre .1) .most
 
-cast-draw-between : tie.Need-cast-draw-between
-cast-draw-between c = search needs
-
-cast-draw-between-2 : tie.Need-cast-draw-between-2
-cast-draw-between-2 c = search needs
-
 draw-between-requires : tie.Need-draw-between-requires
 draw-between-requires c κs =
     let p = c .before .before .before in
     let s = start p in
     let w = ring-lawful (s .args .ring) (s .pre .1) in
     (s .pre .0, rw (centre p) (omega (arith, w .circle .x-in .less)), rw (centre p) (omega (arith, w .circle .y-in .less)), omega arith, w .circle .most)
-
-same-length : tie.Need-same-length
-same-length c = search needs
 
 returns : tie.Need-returns
 unfolding rulesOf
@@ -60,4 +48,4 @@ returns c =
     (d .draw-between .ensures)
 
 pub draw-ring-spec : {M : Type 1} → statement M
-draw-ring-spec = tie.close (tie.spec point-of-requires sub-draw-between cast-draw-between cast-draw-between-2 draw-between-requires same-length returns)
+draw-ring-spec = tie.close (tie.spec (λ c κs. search needs) sub-draw-between (λ c. search needs) (λ c. search needs) draw-between-requires (λ c. search needs) returns)

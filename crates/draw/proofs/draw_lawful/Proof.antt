@@ -31,18 +31,11 @@ found : (c : tie.Start) {s : Shape} {m : List ℕ} {t : ℕ}
     → DrawnIn (a .view) (inkOf (a .level) (drawnD (a .shape))) (shapeOn (a .shape)) (a .page .now) m t
 found c e d = rw e at d
 
--- a line
-enum-known-shape : tie.Need-enum-known-shape
-enum-known-shape c = search needs
-
 draw-line-requires : tie.Need-draw-line-requires
 draw-line-requires c κs =
     let m = c .before .before in
     let e : shapeRefusal (line (m .shape .given .0 .0)) ≡ 0 = cc in
     (start m .pre .0, e)
-
-same-length : tie.Need-same-length
-same-length c = search needs
 
 returns : tie.Need-returns
 returns c =
@@ -52,18 +45,11 @@ returns c =
     let e : line (m .shape .given .0 .0) ≡ s .args .shape = cc in
     found s e (d .draw-line .ensures)
 
--- a disc
-enum-known-shape-2 : tie.Need-enum-known-shape-2
-enum-known-shape-2 c = search needs
-
 draw-disc-requires : tie.Need-draw-disc-requires
 draw-disc-requires c κs =
     let m = c .before .before in
     let e : shapeRefusal (disc (m .shape2 .given .0 .0)) ≡ 0 = cc in
     (start2 m .pre .0, e)
-
-same-length-2 : tie.Need-same-length-2
-same-length-2 c = search needs
 
 returns-2 : tie.Need-returns-2
 returns-2 c =
@@ -73,18 +59,11 @@ returns-2 c =
     let e : disc (m .shape2 .given .0 .0) ≡ s .args .shape = cc in
     found s e (d .draw-disc .ensures)
 
--- a ring
-enum-known-shape-3 : tie.Need-enum-known-shape-3
-enum-known-shape-3 c = search needs
-
 draw-ring-requires : tie.Need-draw-ring-requires
 draw-ring-requires c κs =
     let m = c .before .before in
     let e : shapeRefusal (ring (m .shape3 .given .0 .0)) ≡ 0 = cc in
     (start3 m .pre .0, e)
-
-same-length-3 : tie.Need-same-length-3
-same-length-3 c = search needs
 
 returns-3 : tie.Need-returns-3
 returns-3 c =
@@ -98,15 +77,15 @@ pub draw-lawful-spec : {M : Type 1} → statement M
 draw-lawful-spec =
     tie.close
     (tie.spec
-    enum-known-shape
+    (λ c. search needs)
     draw-line-requires
-    enum-known-shape-2
+    (λ c. search needs)
     draw-disc-requires
-    enum-known-shape-3
+    (λ c. search needs)
     draw-ring-requires
-    same-length
+    (λ c. search needs)
     returns
-    same-length-2
+    (λ c. search needs)
     returns-2
-    same-length-3
+    (λ c. search needs)
     returns-3)

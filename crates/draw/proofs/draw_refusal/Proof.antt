@@ -28,9 +28,6 @@ tests : (c : tie.Start)
     (cond (ltb (a .size) (a .w * a .h)) 21 (cond (ltb 0 (clipRefusal (a .w) (a .h) (a .clip))) (clipRefusal (a .w) (a .h) (a .clip)) (shapeRefusal (a .shape))))
 tests c = let a = c .args in draw-refusals (a .w) (a .h) (a .size) (a .clip) (a .shape)
 
-size-refusal-requires : tie.Need-size-refusal-requires
-size-refusal-requires c κs = search needs
-
 returns : tie.Need-returns
 returns c = simp (tests (c .before .before), ← c .before .size-refusal .ensures, lt-ltb _ _ (c .if1 .taken))
 
@@ -44,9 +41,6 @@ returns-2 c =
     let size = c .before .before in
     simp (tests (size .before), ← size .size-refusal .ensures, le-ltb _ _ (c .before .if1 .left), lt-ltb _ _ (c .if2 .taken))
 
-clip-refusal-requires : tie.Need-clip-refusal-requires
-clip-refusal-requires c κs = search needs
-
 returns-3 : tie.Need-returns-3
 returns-3 c =
     let room = c .before .before in
@@ -59,9 +53,6 @@ returns-3 c =
       ← c .before .clip-refusal .ensures,
       lt-ltb _ _ (c .if3 .taken),
     )
-
-shape-refusal-requires : tie.Need-shape-refusal-requires
-shape-refusal-requires c κs = search needs
 
 returns-4 : tie.Need-returns-4
 returns-4 c =
@@ -81,11 +72,11 @@ pub draw-refusal-spec : {M : Type 1} → statement M
 draw-refusal-spec =
     tie.close
     (tie.spec
-    size-refusal-requires
+    (λ c κs. search needs)
     returns
     mul-if2
     returns-2
-    clip-refusal-requires
+    (λ c κs. search needs)
     returns-3
-    shape-refusal-requires
+    (λ c κs. search needs)
     returns-4)

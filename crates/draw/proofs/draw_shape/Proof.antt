@@ -23,17 +23,11 @@ found : (c : tie.After-draw-refusal)
     c .draw-refusal .result ≡ drawRefusal (a .w) (a .h) (length (a .page .now)) (a .clip) (a .shape)
 found c = c .draw-refusal .ensures
 
-draw-refusal-requires : tie.Need-draw-refusal-requires
-draw-refusal-requires c κs = search needs
-
 returns : tie.Need-returns
 returns c =
     let a = start (c .before) .args in
     let e = ne-eqb (drawRefusal (a .w) (a .h) (length (a .page .now)) (a .clip) (a .shape)) 0 (λ z. omega (arith, found (c .before))) in
     (rw (e, found (c .before)), rw e)
-
-view-of-requires : tie.Need-view-of-requires
-view-of-requires c κs = search needs
 
 -- nothing is refused
 lawful : (c : tie.Else1)
@@ -52,9 +46,6 @@ draw-lawful-requires c κs =
     let b = lawful (view .before) in
     (rw (view .view-of .ensures) (b .1), b .2)
 
-same-length : tie.Need-same-length
-same-length c = search needs
-
 returns-2 : tie.Need-returns-2
 returns-2 c =
     let done = c .before .before in
@@ -69,9 +60,9 @@ pub draw-shape-spec : {M : Type 1} → statement M
 draw-shape-spec =
     tie.close
     (tie.spec
-    draw-refusal-requires
+    (λ c κs. search needs)
     returns
-    view-of-requires
+    (λ c κs. search needs)
     draw-lawful-requires
-    same-length
+    (λ c. search needs)
     returns-2)

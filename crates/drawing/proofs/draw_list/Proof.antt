@@ -29,26 +29,8 @@ header c = c .checked2 .given .0 .0
 accepted : (c : tie.After-checked2) → Accepted (header c) ≡ checkedOf (list c) (length (page c))
 accepted c = sym (c .checked2 .given .1) ∙ c .before .before .check-list .ensures
 
-check-list-requires : tie.Need-check-list-requires
-check-list-requires c κs = search needs
-
-enum-known-checked : tie.Need-enum-known-checked
-enum-known-checked c = search needs
-
-enum-known-checked-2 : tie.Need-enum-known-checked-2
-enum-known-checked-2 c = search needs
-
-cast-n : tie.Need-cast-n
-cast-n c = search needs
-
-cast-n-2 : tie.Need-cast-n-2
-cast-n-2 c = search needs
-
 mul-n : tie.Need-mul-n
 mul-n c = let a = c .before .before .before in record { fits = few (list a) (page a) (header a) (accepted a) }
-
-basis-of-requires : tie.Need-basis-of-requires
-basis-of-requires c κs = search needs
 
 slice-relend-prefix-paint : tie.Need-slice-relend-prefix-paint
 slice-relend-prefix-paint c = let a = c .before .before .before .before in lent-room (list a) (page a) (header a) (accepted a)
@@ -68,9 +50,6 @@ returns c =
     let s = start check in
     refused-claim (now (s .args .list)) (now (s .args .page)) _ _ (sym (c .before .checked .given .1) ∙ check .check-list .ensures)
 
-same-length : tie.Need-same-length
-same-length c = search needs
-
 returns-2 : tie.Need-returns-2
 returns-2 c =
     let done = c .before .before in
@@ -82,16 +61,16 @@ pub draw-list-spec : {M : Type 1} → statement M
 draw-list-spec =
     tie.close
     (tie.spec
-    check-list-requires
-    enum-known-checked
-    enum-known-checked-2
-    cast-n
-    cast-n-2
+    (λ c κs. search needs)
+    (λ c. search needs)
+    (λ c. search needs)
+    (λ c. search needs)
+    (λ c. search needs)
     mul-n
-    basis-of-requires
+    (λ c κs. search needs)
     slice-relend-prefix-paint
     slice-aggregate-paint
     paint-requires
     returns
-    same-length
+    (λ c. search needs)
     returns-2)

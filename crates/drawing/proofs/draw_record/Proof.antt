@@ -23,28 +23,16 @@ lawful c = subst (λ (r : Record). recordRefusal (start c .args .basis) r ≡ 0)
 enum-told : tie.Need-enum-told
 enum-told c = search needs
 
-enum-known-rec : tie.Need-enum-known-rec
-enum-known-rec c = search needs
-
-view-of-requires : tie.Need-view-of-requires
-view-of-requires c κs = search needs
-
 draw-lawful-requires : tie.Need-draw-lawful-requires
 draw-lawful-requires c κs =
     let found = c .before .before .before in
     (rw (c .view-of .ensures) (start found .pre .0), lawful found)
-
-enum-told-2 : tie.Need-enum-told-2
-enum-told-2 c = search needs
 
 returns : tie.Need-returns
 unfolding shapesPage total drawingOf
 returns c =
     let v = c .before .before .before .fits .level in
     rw (c .enum-told .given .1) (record { page = refl; count = refl }, omega arith, omega arith)
-
-same-length : tie.Need-same-length
-same-length c = search needs
 
 returns-2 : tie.Need-returns-2
 returns-2 c =
@@ -66,11 +54,11 @@ draw-record-spec =
     tie.close
     (tie.spec
     enum-told
-    enum-known-rec
-    view-of-requires
+    (λ c. search needs)
+    (λ c κs. search needs)
     draw-lawful-requires
-    enum-told-2
+    (λ c. search needs)
     returns
-    same-length
+    (λ c. search needs)
     returns-2
     returns-3)

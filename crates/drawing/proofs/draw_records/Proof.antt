@@ -28,9 +28,6 @@ drawn c = c .before .before .before
 abbrev sized : tie.After-kind-size Inv-loop μ-loop → tie.After-draw-record Inv-loop μ-loop
 sized c = c .before .before .before .before
 
-first-settings-requires : tie.Need-first-settings-requires Inv-loop μ-loop
-first-settings-requires c κs = search needs
-
 loop-holds : tie.Need-loop-holds Inv-loop μ-loop
 loop-holds c =
     let s = c .before .before .before in
@@ -38,9 +35,6 @@ loop-holds c =
 
 shared-slice-read-kind : tie.Need-shared-slice-read-kind Inv-loop μ-loop
 shared-slice-read-kind c = left-inside (c .before .loop .inv .0 .left) .0
-
-same-length : tie.Need-same-length Inv-loop μ-loop
-same-length c = search needs
 
 returns : tie.Need-returns Inv-loop μ-loop
 returns c =
@@ -72,12 +66,6 @@ add-touched c =
     let k = r .draw-record .ensures .1 in
     record { fits = omega arith }
 
-settings-after-requires : tie.Need-settings-after-requires Inv-loop μ-loop
-settings-after-requires c κs = search needs
-
-kind-size-requires : tie.Need-kind-size-requires Inv-loop μ-loop
-kind-size-requires c κs = search needs
-
 add-place : tie.Need-add-place Inv-loop μ-loop
 add-place c =
     let p = decoded (drawn (sized c)) .loop .inv .0 in
@@ -108,10 +96,10 @@ draw-records-spec =
     (tie.spec
     Inv-loop
     μ-loop
-    first-settings-requires
+    (λ c κs. search needs)
     loop-holds
     shared-slice-read-kind
-    same-length
+    (λ c. search needs)
     returns
     sub-decode
     part-decode-start
@@ -119,8 +107,8 @@ draw-records-spec =
     decode-requires
     draw-record-requires
     add-touched
-    settings-after-requires
-    kind-size-requires
+    (λ c κs. search needs)
+    (λ c κs. search needs)
     add-place
     loop-less
     loop-again)

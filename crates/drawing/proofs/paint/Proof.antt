@@ -7,15 +7,6 @@ use borrow.Author.Needs.{needs}
 use Rattle.drawing.proofs.paint.Statement.{statement}
 use Rattle.drawing.proofs.paint.Tie as tie
 
-fill-requires : tie.Need-fill-requires
-fill-requires c κs = search needs
-
-draw-records-requires : tie.Need-draw-records-requires
-draw-records-requires c κs = search needs
-
-same-length : tie.Need-same-length
-same-length c = search needs
-
 returns : tie.Need-returns
 returns c =
     let done = c .before .before in
@@ -25,4 +16,4 @@ returns c =
     record { page = e .0 .page ∙ ap (shapesPage _ _) (filled .fill .ensures) ∙ page-painted _ _ _ _; count = e .0 .count; lawful = e .1; byte = omega arith }
 
 pub paint-spec : {M : Type 1} → statement M
-paint-spec = tie.close (tie.spec fill-requires draw-records-requires same-length returns)
+paint-spec = tie.close (tie.spec (λ c κs. search needs) (λ c κs. search needs) (λ c. search needs) returns)

@@ -1,15 +1,10 @@
+-- A dividend of at most 511·d over 2·d is a byte; the reciprocal of d is near enough for it up to 2^23, and above that the quotient is tested.
 use mathlib.Core.Path.{_∙_}
 use native.Mathlib.Omega.{arith}
 use Rattle.page.proofs.Blend.{blend-quotient, quotient-byte, reciprocal-fits, near-enough}
 use borrow.Author.Needs.{needs}
 use Rattle.page.proofs.blend_byte.Statement.{statement}
 use Rattle.page.proofs.blend_byte.Tie as tie
-
-dividend-requires : tie.Need-dividend-requires
-dividend-requires c κs = search needs
-
-mul-near-quotient : tie.Need-mul-near-quotient
-mul-near-quotient c = search needs
 
 near-quotient-requires : tie.Need-near-quotient-requires
 near-quotient-requires c κs =
@@ -20,9 +15,6 @@ near-quotient-requires c κs =
 
 cast-result : tie.Need-cast-result
 cast-result c = record { fits = rw (c .near-quotient .ensures) (quotient-byte _ _ (omega arith) (c .before .before .dividend .ensures .most)) }
-
-mul-quotient : tie.Need-mul-quotient
-mul-quotient c = search needs
 
 quotient-requires : tie.Need-quotient-requires
 quotient-requires c κs =
@@ -42,11 +34,11 @@ pub blend-byte-spec : {M : Type 1} → statement M
 blend-byte-spec =
     tie.close
     (tie.spec
-    dividend-requires
-    mul-near-quotient
+    (λ c κs. search needs)
+    (λ c. search needs)
     near-quotient-requires
     cast-result
-    mul-quotient
+    (λ c. search needs)
     quotient-requires
     cast-result-2
     returns

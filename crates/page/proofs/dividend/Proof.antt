@@ -1,3 +1,4 @@
+-- 2·(u·(d − n) + v·n) + d is at most 510·d + d, as u and v are bytes.
 use Prim.Native.Nat.{_+_, _-_, _*_, _≤_}
 use native.Mathlib.Omega.{arith}
 use mathlib.Core.Path.{refl}
@@ -8,9 +9,6 @@ use Rattle.page.proofs.dividend.Tie as tie
 
 most : (c : tie.Start) → 2 * (c .args .u * (c .args .d - c .args .n) + c .args .v * c .args .n) + c .args .d ≤ 511 * c .args .d
 most c = dividend-le (c .args .u) (c .args .v) (c .args .n) (c .args .d) (omega (arith, c .fits .u)) (omega (arith, c .fits .v)) (omega arith)
-
-sub-result : tie.Need-sub-result
-sub-result c = search needs
 
 mul-result : tie.Need-mul-result
 mul-result c = omega (arith, most c)
@@ -33,4 +31,4 @@ returns c = record { is = refl; most = most c }
 pub dividend-spec : {M : Type 1} → statement M
 dividend-spec =
     tie.close
-    (tie.spec sub-result mul-result mul-result-2 add-result mul-result-3 add-result-2 returns)
+    (tie.spec (λ c. search needs) mul-result mul-result-2 add-result mul-result-3 add-result-2 returns)

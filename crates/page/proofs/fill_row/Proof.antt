@@ -23,23 +23,8 @@ mul-e c = omega (arith, inside (c .before))
 add-e : tie.Need-add-e
 add-e c = omega (arith, inside (c .before))
 
-sub-fill : tie.Need-sub-fill
-sub-fill c = search needs
-
-part-fill-start : tie.Need-part-fill-start
-part-fill-start c = search needs
-
 part-fill-end : tie.Need-part-fill-end
 part-fill-end c = omega (arith, inside (c .before))
-
-fill-requires : tie.Need-fill-requires
-fill-requires c κs = search needs
-
-sub-result : tie.Need-sub-result
-sub-result c = search needs
-
-same-length : tie.Need-same-length
-same-length c = search needs
 
 returns : tie.Need-returns
 returns c =
@@ -55,10 +40,10 @@ fill-row-spec =
     add-a
     mul-e
     add-e
-    sub-fill
-    part-fill-start
+    (λ c. search needs)
+    (λ c. search needs)
     part-fill-end
-    fill-requires
-    sub-result
-    same-length
+    (λ c κs. search needs)
+    (λ c. search needs)
+    (λ c. search needs)
     returns)

@@ -7,9 +7,6 @@ use borrow.Author.Needs.{needs}
 use Rattle.page.proofs.quotient.Statement.{statement}
 use Rattle.page.proofs.quotient.Tie as tie
 
-mul-q : tie.Need-mul-q
-mul-q c = search needs
-
 mul-p : tie.Need-mul-p
 mul-p c =
     let a = c .args in
@@ -21,11 +18,5 @@ returns c =
     let a = c .before .before .args in
     sym (div-eq-of-lt-le {k = a .x * a .m / 72057594037927936} (a .d) {m = a .x} (omega arith) (omega arith))
 
-div-result : tie.Need-div-result
-div-result c = search needs
-
-returns-2 : tie.Need-returns-2
-returns-2 c = search needs
-
 pub quotient-spec : {M : Type 1} → statement M
-quotient-spec = tie.close (tie.spec mul-q mul-p returns div-result returns-2)
+quotient-spec = tie.close (tie.spec (λ c. search needs) mul-p returns (λ c. search needs) (λ c. search needs))

@@ -1,12 +1,10 @@
+-- The least whole number above 2^55/d is its quotient and one.
 use native.Mathlib.Nat.{div-le-self}
 use native.Mathlib.Omega.{arith}
 use Rattle.page.proofs.Blend.{reciprocal-is}
 use borrow.Author.Needs.{needs}
 use Rattle.page.proofs.reciprocal.Statement.{statement}
 use Rattle.page.proofs.reciprocal.Tie as tie
-
-div-result : tie.Need-div-result
-div-result c = search needs
 
 add-result : tie.Need-add-result
 add-result c = omega (arith, div-le-self 36028797018963968 (c .args .d))
@@ -15,4 +13,4 @@ returns : tie.Need-returns
 returns c = reciprocal-is (c .args .d) (omega arith)
 
 pub reciprocal-spec : {M : Type 1} → statement M
-reciprocal-spec = tie.close (tie.spec div-result add-result returns)
+reciprocal-spec = tie.close (tie.spec (λ c. search needs) add-result returns)

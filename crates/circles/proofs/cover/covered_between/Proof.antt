@@ -1,3 +1,4 @@
+-- Heights within are no higher, so that no difference is cut; past its radius the inner circle covers nothing.
 use mathlib.Core.Path.{ap₂}
 use Prim.Native.Nat.{_-_}
 use native.Mathlib.Omega.{arith}
@@ -7,15 +8,6 @@ use Rattle.circles.proofs.Chords.{chords-far}
 use borrow.Author.Needs.{needs}
 use Rattle.circles.proofs.cover.covered_between.Statement.{statement}
 use Rattle.circles.proofs.cover.covered_between.Tie as tie
-
-covered-requires : tie.Need-covered-requires
-covered-requires c κs = search needs
-
-greater-requires : tie.Need-greater-requires
-greater-requires c κs = search needs
-
-covered-requires-2 : tie.Need-covered-requires-2
-covered-requires-2 c κs = search needs
 
 sub-result : tie.Need-sub-result
 sub-result c =
@@ -35,4 +27,4 @@ returns-2 c =
 
 pub covered-between-spec : {M : Type 1} → statement M
 covered-between-spec =
-    tie.close (tie.spec covered-requires greater-requires covered-requires-2 sub-result returns returns-2)
+    tie.close (tie.spec (λ c κs. search needs) (λ c κs. search needs) (λ c κs. search needs) sub-result returns returns-2)

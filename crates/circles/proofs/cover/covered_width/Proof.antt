@@ -14,17 +14,11 @@ Inv-loop hs b i₀ i = i ≤ 255
 abbrev μ-loop : tie.MeasureT-loop
 μ-loop hs b i₀ i = 255 - i
 
-height-requires : tie.Need-height-requires Inv-loop μ-loop
-height-requires c κs = search needs
-
 add-i : tie.Need-add-i Inv-loop μ-loop
 add-i c = omega (arith, c .before .pre .0 .most (c .before .args .b))
 
 loop-holds : tie.Need-loop-holds Inv-loop μ-loop
 loop-holds c = omega (arith, c .before .pre .0 .most (c .before .args .b))
-
-is-clear-requires : tie.Need-is-clear-requires Inv-loop μ-loop
-is-clear-requires c κs = search needs
 
 returns : tie.Need-returns Inv-loop μ-loop
 returns c =
@@ -32,15 +26,6 @@ returns c =
     let i = c .before .before .before .loop .i in
     let here = chords-clear (s .pre .0) i (s .args .b) (leb-true _ _ (sym (c .before .is-clear .ensures) ∙ c .if1 .taken)) in
     (omega arith, λ a h. omega (arith, here, chords-falls (s .pre .0) i a (s .args .b) h))
-
-add-i-2 : tie.Need-add-i-2 Inv-loop μ-loop
-add-i-2 c = search needs
-
-loop-less : tie.Need-loop-less Inv-loop μ-loop
-loop-less c = search needs
-
-loop-again : tie.Need-loop-again Inv-loop μ-loop
-loop-again c = search needs
 
 returns-2 : tie.Need-returns-2 Inv-loop μ-loop
 returns-2 c =
@@ -53,12 +38,12 @@ covered-width-spec =
     (tie.spec
     Inv-loop
     μ-loop
-    height-requires
+    (λ c κs. search needs)
     add-i
     loop-holds
-    is-clear-requires
+    (λ c κs. search needs)
     returns
-    add-i-2
-    loop-less
-    loop-again
+    (λ c. search needs)
+    (λ c. search needs)
+    (λ c. search needs)
     returns-2)

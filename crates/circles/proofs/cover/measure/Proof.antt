@@ -1,14 +1,19 @@
+-- The outer circle tells where the row is whole and where it ends, the inner one where its hole begins and ends.
 use native.Mathlib.Omega.{arith}
 use Rattle.circles.proofs.Chords.{heights-wider, measured-solid, measured-hollow}
 use borrow.Author.Needs.{needs}
 use Rattle.circles.proofs.cover.measure.Statement.{statement}
 use Rattle.circles.proofs.cover.measure.Tie as tie
 
-whole-width-requires : tie.Need-whole-width-requires
-whole-width-requires c κs = search needs
+-- the states behind the outer circle's widths and behind the inner edge
+abbrev outer : tie.Else1 → tie.After-covered-width
+outer c = c .before
 
-covered-width-requires : tie.Need-covered-width-requires
-covered-width-requires c κs = search needs
+abbrev start : tie.After-covered-width → tie.Start
+start c = c .before .before
+
+abbrev inner : tie.After-whole-width2 → tie.Else1
+inner c = c .before .before .before
 
 returns : tie.Need-returns
 returns c =
@@ -22,24 +27,20 @@ covered-width-requires-2 c κs =
     let s = c .before .before .before in
     (heights-wider (s .pre .0 .small) (s .pre .0 .inner), omega arith)
 
-lesser-requires : tie.Need-lesser-requires
-lesser-requires c κs = search needs
-
 whole-width-requires-2 : tie.Need-whole-width-requires-2
 whole-width-requires-2 c κs =
-    let s = c .before .before .before .before .before in
+    let s = start (outer (c .before .before)) in
     (heights-wider (s .pre .0 .small) (s .pre .0 .inner), omega arith)
-
-greater-requires : tie.Need-greater-requires
-greater-requires c κs = search needs
 
 returns-2 : tie.Need-returns-2
 returns-2 c =
-    let s = c .before .before .before .before .before .before .before in
-    let whole = c .before .before .before .before .before .before .whole-width .ensures in
-    let end = c .before .before .before .before .before .covered-width .ensures in
-    let hole = c .before .whole-width2 .ensures in
-    let edge = c .before .before .before .covered-width2 .ensures in
+    let ring = c .before in
+    let ends = outer (inner ring) in
+    let s = start ends in
+    let whole = ends .before .whole-width .ensures in
+    let end = ends .covered-width .ensures in
+    let hole = ring .whole-width2 .ensures in
+    let edge = ring .before .before .covered-width2 .ensures in
     rw (c .greater .ensures, c .before .before .lesser .ensures)
     (measured-hollow _ _ (s .args .hole) (s .args .b) _ _ _ _ (s .pre .0) (end .0)
     (record { whole = whole .1; clear = end .1 })
@@ -49,11 +50,11 @@ pub measure-spec : {M : Type 1} → statement M
 measure-spec =
     tie.close
     (tie.spec
-    whole-width-requires
-    covered-width-requires
+    (λ c κs. search needs)
+    (λ c κs. search needs)
     returns
     covered-width-requires-2
-    lesser-requires
+    (λ c κs. search needs)
     whole-width-requires-2
-    greater-requires
+    (λ c κs. search needs)
     returns-2)

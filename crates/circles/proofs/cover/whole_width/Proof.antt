@@ -16,20 +16,8 @@ Inv-loop hs b i₀ i = i ≤ 255
 abbrev μ-loop : tie.MeasureT-loop
 μ-loop hs b i₀ i = i
 
-add-height : tie.Need-add-height Inv-loop μ-loop
-add-height c = search needs
-
-height-requires : tie.Need-height-requires Inv-loop μ-loop
-height-requires c κs = search needs
-
 loop-holds : tie.Need-loop-holds Inv-loop μ-loop
 loop-holds c = omega (arith, c .before .pre .0 .most (c .before .args .b + 1))
-
-sub-is-whole : tie.Need-sub-is-whole Inv-loop μ-loop
-sub-is-whole c = search needs
-
-is-whole-requires : tie.Need-is-whole-requires Inv-loop μ-loop
-is-whole-requires c κs = search needs
 
 returns : tie.Need-returns Inv-loop μ-loop
 returns c =
@@ -38,15 +26,6 @@ returns c =
     let here = chords-whole (s .pre .0) (i - 1) (s .args .b) (leb-true _ _ (sym (c .before .is-whole .ensures) ∙ c .if1 .taken)) in
     let Y = at (s .args .hs .now) in
     (omega arith, λ a h. omega (arith, here, chords-falls (s .pre .0) a (i - 1) (s .args .b) (omega arith), chords-le Y a (s .args .b)))
-
-sub-i : tie.Need-sub-i Inv-loop μ-loop
-sub-i c = search needs
-
-loop-less : tie.Need-loop-less Inv-loop μ-loop
-loop-less c = search needs
-
-loop-again : tie.Need-loop-again Inv-loop μ-loop
-loop-again c = search needs
 
 returns-2 : tie.Need-returns-2 Inv-loop μ-loop
 returns-2 c = (omega arith, λ a h. absurd (omega arith))
@@ -57,13 +36,13 @@ whole-width-spec =
     (tie.spec
     Inv-loop
     μ-loop
-    add-height
-    height-requires
+    (λ c. search needs)
+    (λ c κs. search needs)
     loop-holds
-    sub-is-whole
-    is-whole-requires
+    (λ c. search needs)
+    (λ c κs. search needs)
     returns
-    sub-i
-    loop-less
-    loop-again
+    (λ c. search needs)
+    (λ c. search needs)
+    (λ c. search needs)
     returns-2)

@@ -35,43 +35,17 @@ abbrev μ-loop : tie.MeasureT-loop
 loop-holds : tie.Need-loop-holds Inv-loop μ-loop
 loop-holds c = (omega arith, refl, upTo-none _ _, sym (sum-none _))
 
-add-apart-of : tie.Need-add-apart-of Inv-loop μ-loop
-add-apart-of c = search needs
-
-add-apart-of-2 : tie.Need-add-apart-of-2 Inv-loop μ-loop
-add-apart-of-2 c = search needs
-
-apart-of-requires : tie.Need-apart-of-requires Inv-loop μ-loop
-apart-of-requires c κs = search needs
-
 covered-between-requires : tie.Need-covered-between-requires Inv-loop μ-loop
 covered-between-requires c κs =
     let s = c .before .before .before .before in
     (s .pre .0 .0, omega (arith, s .pre .1 (c .before .before .loop .i) (omega arith)), omega arith)
 
-slice-read-u : tie.Need-slice-read-u Inv-loop μ-loop
-slice-read-u c = search needs
-
-blend-byte-512-requires : tie.Need-blend-byte-512-requires Inv-loop μ-loop
-blend-byte-512-requires c κs = search needs
-
-slice-write-stretch : tie.Need-slice-write-stretch Inv-loop μ-loop
-slice-write-stretch c = search needs
-
-touched-requires : tie.Need-touched-requires Inv-loop μ-loop
-touched-requires c κs = search needs
-
 add-touched : tie.Need-add-touched Inv-loop μ-loop
 add-touched c =
-    let a = c .before .before .before .before .before .before .before .before .args in
-    let l = c .before .before .before .before .before .before .loop in
+    let turn = c .before .before .before .before .before .before in
+    let a = turn .before .before .args in
+    let l = turn .loop in
     omega (arith, sum-le (l .i) 1 (λ k. touch (cover (a .outer .now) (a .inner .now) (a .cx) (a .x) (a .b) k)) (λ k. omega arith))
-
-add-i : tie.Need-add-i Inv-loop μ-loop
-add-i c = search needs
-
-loop-less : tie.Need-loop-less Inv-loop μ-loop
-loop-less c = search needs
 
 loop-again : tie.Need-loop-again Inv-loop μ-loop
 loop-again c =
@@ -114,17 +88,17 @@ blend-edge-spec =
     Inv-loop
     μ-loop
     loop-holds
-    add-apart-of
-    add-apart-of-2
-    apart-of-requires
+    (λ c. search needs)
+    (λ c. search needs)
+    (λ c κs. search needs)
     covered-between-requires
-    slice-read-u
-    blend-byte-512-requires
-    slice-write-stretch
-    touched-requires
+    (λ c. search needs)
+    (λ c κs. search needs)
+    (λ c. search needs)
+    (λ c κs. search needs)
     add-touched
-    add-i
-    loop-less
+    (λ c. search needs)
+    (λ c. search needs)
     loop-again
     same-length
     returns)

@@ -25,12 +25,6 @@ middle c = c .before .before .before .before
 whole-ink : (v u : ℕ) → inkOf v 512 512 u ≡ v
 whole-ink v u = blend-whole u v 512 (omega arith)
 
-draw-edge-requires : tie.Need-draw-edge-requires
-draw-edge-requires c κs = search needs
-
-fill-row-requires : tie.Need-fill-row-requires
-fill-row-requires c κs = search needs
-
 draw-edge-requires-2 : tie.Need-draw-edge-requires-2
 draw-edge-requires-2 c κs =
     let filled = c .before .before .before in
@@ -54,9 +48,6 @@ add-result c = omega (arith, few (c .before .before))
 add-result-2 : tie.Need-add-result-2
 add-result-2 c = omega (arith, few (c .before .before))
 
-same-length : tie.Need-same-length
-same-length c = search needs
-
 returns : tie.Need-returns
 returns c =
     let right = c .before .before in
@@ -73,10 +64,10 @@ pub draw-band-spec : {M : Type 1} → statement M
 draw-band-spec =
     tie.close
     (tie.spec
-    draw-edge-requires
-    fill-row-requires
+    (λ c κs. search needs)
+    (λ c κs. search needs)
     draw-edge-requires-2
     add-result
     add-result-2
-    same-length
+    (λ c. search needs)
     returns)

@@ -37,18 +37,6 @@ mul-e c = omega (arith, inside (c .before))
 add-e : tie.Need-add-e
 add-e c = omega (arith, inside (c .before))
 
-add-apart-of : tie.Need-add-apart-of
-add-apart-of c = search needs
-
-apart-of-requires : tie.Need-apart-of-requires
-apart-of-requires c κs = search needs
-
-sub-blend-edge : tie.Need-sub-blend-edge
-sub-blend-edge c = search needs
-
-part-blend-edge-start : tie.Need-part-blend-edge-start
-part-blend-edge-start c = search needs
-
 part-blend-edge-end : tie.Need-part-blend-edge-end
 part-blend-edge-end c = omega (arith, inside (c .before .before))
 
@@ -60,9 +48,6 @@ blend-edge-requires c κs =
       (s .pre .0 .nested, omega (arith, near .rows (a .y) (omega arith) (omega arith)), omega (arith, lent s)),
       λ i h. near .columns (a .from + i) (omega arith) (omega (arith, lent s)),
     )
-
-same-length : tie.Need-same-length
-same-length c = search needs
 
 returns : tie.Need-returns
 returns c =
@@ -82,11 +67,11 @@ draw-edge-spec =
     add-a
     mul-e
     add-e
-    add-apart-of
-    apart-of-requires
-    sub-blend-edge
-    part-blend-edge-start
+    (λ c. search needs)
+    (λ c κs. search needs)
+    (λ c. search needs)
+    (λ c. search needs)
     part-blend-edge-end
     blend-edge-requires
-    same-length
+    (λ c. search needs)
     returns)

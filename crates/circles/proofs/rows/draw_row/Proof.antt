@@ -15,28 +15,10 @@ measured : (c : tie.After-measure)
     Measured (at (a .outer .now)) (at (a .inner .now)) (apart (a .ring .cy) (a .y + 4096)) (c .measure .result)
 measured c = rw (c .before .apart-of .ensures) at (c .measure .ensures)
 
-add-apart-of : tie.Need-add-apart-of
-add-apart-of c = search needs
-
-apart-of-requires : tie.Need-apart-of-requires
-apart-of-requires c κs = search needs
-
 measure-requires : tie.Need-measure-requires
 measure-requires c κs =
     let s = c .before .before in
     (s .pre .0 .nested, omega (arith, s .pre .0 .near .rows (s .args .y) (omega arith) (omega arith)))
-
-left-at-requires : tie.Need-left-at-requires
-left-at-requires c κs = search needs
-
-left-at-requires-2 : tie.Need-left-at-requires-2
-left-at-requires-2 c κs = search needs
-
-right-at-requires : tie.Need-right-at-requires
-right-at-requires c κs = search needs
-
-right-at-requires-2 : tie.Need-right-at-requires-2
-right-at-requires-2 c κs = search needs
 
 draw-band-requires : tie.Need-draw-band-requires
 draw-band-requires c κs =
@@ -49,9 +31,6 @@ draw-band-requires c κs =
           (solid-band (s .args .y) (s .pre .0) (s .pre .1) (measured m) (c .before .if1 .taken)),
     )
 
-same-length : tie.Need-same-length
-same-length c = search needs
-
 returns : tie.Need-returns
 returns c =
     let right = c .before .before .before .before .before .before in
@@ -60,18 +39,6 @@ returns c =
     let s = m .before .before .before in
     solid-row (s .args .y) (s .pre .0) (s .pre .1) (measured m)
     (rw (left .left-at .ensures, right .right-at2 .ensures) at (c .before .before .draw-band .ensures))
-
-left-at-requires-3 : tie.Need-left-at-requires-3
-left-at-requires-3 c κs = search needs
-
-left-at-requires-4 : tie.Need-left-at-requires-4
-left-at-requires-4 c κs = search needs
-
-right-at-requires-3 : tie.Need-right-at-requires-3
-right-at-requires-3 c κs = search needs
-
-right-at-requires-4 : tie.Need-right-at-requires-4
-right-at-requires-4 c κs = search needs
 
 draw-band-requires-2 : tie.Need-draw-band-requires-2
 draw-band-requires-2 c κs =
@@ -96,15 +63,19 @@ draw-band-requires-3 c κs =
           (right-band (s .args .y) (s .pre .0) (s .pre .1) (measured m)),
     )
 
+-- the state at entry, behind the columns of the row and those of its hole
+abbrev columns : tie.After-right-at4 → tie.After-right-at2
+columns c = c .before .before .before .before .before .before
+
+abbrev start : tie.After-right-at4 → tie.Start
+start c = let m = columns c .before .before .before .before in m .before .before .before
+
 add-result : tie.Need-add-result
 add-result c =
     let second = c .before .before in
     let first = second .before .before .before .before in
-    let law = first .before .before .before .before .before .before .before .before .before .before .before .before .before .before .before .pre .0 .lawful in
+    let law = start (first .before .before) .pre .0 .lawful in
     omega (arith, drawn-count law (first .draw-band2 .ensures), drawn-count law (second .draw-band3 .ensures))
-
-same-length-2 : tie.Need-same-length-2
-same-length-2 c = search needs
 
 returns-2 : tie.Need-returns-2
 returns-2 c =
@@ -123,22 +94,22 @@ pub draw-row-spec : {M : Type 1} → statement M
 draw-row-spec =
     tie.close
     (tie.spec
-    add-apart-of
-    apart-of-requires
+    (λ c. search needs)
+    (λ c κs. search needs)
     measure-requires
-    left-at-requires
-    left-at-requires-2
-    right-at-requires
-    right-at-requires-2
+    (λ c κs. search needs)
+    (λ c κs. search needs)
+    (λ c κs. search needs)
+    (λ c κs. search needs)
     draw-band-requires
-    same-length
+    (λ c. search needs)
     returns
-    left-at-requires-3
-    left-at-requires-4
-    right-at-requires-3
-    right-at-requires-4
+    (λ c κs. search needs)
+    (λ c κs. search needs)
+    (λ c κs. search needs)
+    (λ c κs. search needs)
     draw-band-requires-2
     draw-band-requires-3
     add-result
-    same-length-2
+    (λ c. search needs)
     returns-2)

@@ -36,12 +36,6 @@ add-touched c =
     let law = s .before .before .pre .lawful in
     omega (arith, drawn-count law (s .loop .inv .2), drawn-count law (c .before .before .draw-row .ensures))
 
-add-y : tie.Need-add-y Inv-loop μ-loop
-add-y c = search needs
-
-loop-less : tie.Need-loop-less Inv-loop μ-loop
-loop-less c = search needs
-
 loop-again : tie.Need-loop-again Inv-loop μ-loop
 loop-again c =
     let s = c .before .before .before .before .before in
@@ -72,8 +66,8 @@ draw-rows-spec =
     loop-holds
     draw-row-requires
     add-touched
-    add-y
-    loop-less
+    (λ c. search needs)
+    (λ c. search needs)
     loop-again
     same-length
     returns)
