@@ -161,7 +161,21 @@ fn four_words(kind: u8, a: u16, b: u16, c: u16, d: u16) -> [u8; RECORD_MOST]
     let q = numbers::word_bytes(b);
     let r = numbers::word_bytes(c);
     let s = numbers::word_bytes(d);
-    [kind, p[0], p[1], q[0], q[1], r[0], r[1], s[0], s[1], 0, 0, 0, 0]
+    [
+        kind,
+        p[0],
+        p[1],
+        q[0],
+        q[1],
+        r[0],
+        r[1],
+        s[0],
+        s[1],
+        0,
+        0,
+        0,
+        0,
+    ]
 }
 
 // A kind byte, a centre, a radius and a width.
@@ -199,7 +213,7 @@ fn setting_bytes(setting: Setting) -> [u8; RECORD_MOST]
 }
 
 // The kind of a line.
-fn line_kind(exact: bool) -> u8
+pub fn line_kind(exact: bool) -> u8
     ensures { λ r. ⌜ r ≡ cond exact 3 4 ⌝ }
 {
     if exact { 3 } else { 4 }
