@@ -7,9 +7,9 @@ use shapes::Record;
 use shapes::Setting;
 use shapes::Shape;
 ghost use mathlib.Core.Path.{_≡_};
-ghost use mathlib.Core.Bool.{cond};
 ghost use lib.IntN.{pos};
 ghost use Rattle.shapes.specs.Limits.{sized};
+ghost use Rattle.lists.specs.Format.{kindSize};
 ghost use Rattle.lists.specs.Read.{readingOf};
 ghost use Rattle.lists.specs.List.{checkedOf};
 ghost use Rattle.greystroke.specs.Lists.{recordAnswer, readAnswer, checkAnswer};
@@ -49,10 +49,11 @@ fn wide_unsigned(n: u16) -> i32
     n as i32
 }
 
-fn line_kind(exact: bool) -> u64
-    ensures { λ r. ⌜ r ≡ cond exact 3 4 ⌝ }
+// How many bytes a record of a kind has.
+fn size_of(kind: u8) -> u64
+    ensures { λ r. ⌜ r ≡ kindSize kind ⌝ }
 {
-    if exact { 3 } else { 4 }
+    lists::format::kind_size(kind) as u64
 }
 
 // Each kind of record in the form that C takes.
@@ -61,7 +62,7 @@ fn clip_answer(clip: Clip) -> ReadAnswer
 {
     ReadAnswer {
         refusal: 0,
-        size: 9,
+        size: size_of(1),
         kind: 1,
         a: wide_unsigned(clip.x0),
         b: wide_unsigned(clip.y0),
@@ -75,7 +76,7 @@ fn level_answer(level: u8) -> ReadAnswer
 {
     ReadAnswer {
         refusal: 0,
-        size: 2,
+        size: size_of(2),
         kind: 2,
         a: wide_unsigned(level as u16),
         b: 0,
@@ -87,10 +88,11 @@ fn level_answer(level: u8) -> ReadAnswer
 fn line_answer(line: Line) -> ReadAnswer
     ensures { λ r. ⌜ r ≡ recordAnswer (Record.Shape (Shape.Line line)) ⌝ }
 {
+    let kind = lists::format::line_kind(line.exact);
     ReadAnswer {
         refusal: 0,
-        size: 9,
-        kind: line_kind(line.exact),
+        size: size_of(kind),
+        kind: kind as u64,
         a: wide(line.x0),
         b: wide(line.y0),
         c: wide(line.x1),
@@ -99,13 +101,13 @@ fn line_answer(line: Line) -> ReadAnswer
 }
 
 // A disc or a ring.
-fn circle_answer(size: u64, kind: u64, x: i16, y: i16, radius: u16, width: u16) -> ReadAnswer
-    ensures { λ r. ⌜ r ≡ record { refusal = 0; size = size; kind = kind; a = x; b = y; c = pos radius; d = pos width } ⌝ }
+fn circle_answer(kind: u8, x: i16, y: i16, radius: u16, width: u16) -> ReadAnswer
+    ensures { λ r. ⌜ r ≡ record { refusal = 0; size = kindSize kind; kind = kind; a = x; b = y; c = pos radius; d = pos width } ⌝ }
 {
     ReadAnswer {
         refusal: 0,
-        size,
-        kind,
+        size: size_of(kind),
+        kind: kind as u64,
         a: wide(x),
         b: wide(y),
         c: wide_unsigned(radius),
@@ -127,8 +129,8 @@ fn shape_answer(shape: Shape) -> ReadAnswer
 {
     match shape {
         Shape::Line(line) => line_answer(line),
-        Shape::Disc(disc) => circle_answer(6, 5, disc.x, disc.y, disc.radius, 0),
-        Shape::Ring(ring) => circle_answer(7, 6, ring.x, ring.y, ring.radius, ring.width),
+        Shape::Disc(disc) => circle_answer(5, disc.x, disc.y, disc.radius, 0),
+        Shape::Ring(ring) => circle_answer(6, ring.x, ring.y, ring.radius, ring.width),
     }
 }
 
@@ -138,7 +140,7 @@ fn record_answer(rec: Record) -> ReadAnswer
     match rec {
         Record::End => ReadAnswer {
             refusal: 0,
-            size: 1,
+            size: size_of(0),
             kind: 0,
             a: 0,
             b: 0,

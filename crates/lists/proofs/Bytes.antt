@@ -1,17 +1,13 @@
 -- Laws of the bytes of a record.
+use lib.Dec.{eqb}
 use mathlib.Core.Path.{_≡_, refl}
 use mathlib.Core.Bool.{Bool, true, false, cond}
 use mathlib.Core.List.{List}
 use Prim.Native.Nat.{ℕ, _-_, _≤_, _<_}
 use native.Mathlib.Omega.{arith}
 use borrow.Author.Tests.{ne-eqb}
-use lib.IntN.{ℤ}
 use lib.ListN.{length, replicate}
 use lib.Seq.{paste, take-append-seam}
-use lib.Signed.{mag}
-use mir.Syntax.{w16}
-use mir.Val.{SFits, toZ, ofZ}
-use mir.Facts.{toZ-ofZ}
 use Rattle.shapes.specs.declared.Shape.the-variants.{Line as line, Disc as disc, Ring as ring}
 use Rattle.shapes.specs.declared.Setting.the-variants.{Clip as clip, Level as level}
 use Rattle.shapes.specs.declared.Record.{Record}
@@ -19,12 +15,6 @@ use Rattle.shapes.specs.declared.Record.the-variants.{End as end, Setting as se
 use Rattle.lists.specs.Format.{kindSize, kindOf, fieldsOf, recordBytes}
 use Rattle.lists.specs.inner.Record.{recordMost, padded}
 use Rattle.lists.specs.Write.{putAt}
-
--- a local gives back the coordinate that it was given
-pub kept : (z : ℤ) → mag z < 32768 → toZ w16 (ofZ w16 z) ≡ z
-kept z h =
-    let fits : SFits w16 z = record { sfits = h } in
-    toZ-ofZ fits
 
 -- ---- sizes
 
@@ -46,7 +36,8 @@ record-size (shape (ring g)) = refl
 pub unknown-kind : (k : ℕ) → 6 < k → kindSize k ≡ 0
 unfolding kindSize
 unknown-kind k h =
-    simp (ne-eqb k 0 (λ e. omega arith), ne-eqb k 1 (λ e. omega arith), ne-eqb k 2 (λ e. omega arith), ne-eqb k 3 (λ e. omega arith), ne-eqb k 4 (λ e. omega arith), ne-eqb k 5 (λ e. omega arith), ne-eqb k 6 (λ e. omega arith))
+    let other : (j : ℕ) → j ≤ 6 → eqb k j ≡ false = λ j i. ne-eqb k j (λ e. omega arith) in
+    simp (other 0 (omega arith), other 1 (omega arith), other 2 (omega arith), other 3 (omega arith), other 4 (omega arith), other 5 (omega arith), other 6 (omega arith))
 
 pub record-most : (r : Record) → length (recordBytes r) ≤ recordMost
 unfolding fieldsOf

@@ -82,7 +82,10 @@ module _ (t : List ℕ) where
   no-refusal b r page lawful =
       let size = record-size r in
       let long = length-append (recordBytes r) t in
-      simp (page, ne-eqb (length (recordBytes r ++ t)) 0 (λ e. omega arith), ne-eqb (sizeAt (recordBytes r ++ t)) 0 (λ e. omega arith), le-ltb (length (recordBytes r ++ t)) (sizeAt (recordBytes r ++ t)) (omega arith), ap (recordRefusal b) (record-back b r lawful) ∙ lawful)
+      let s : List ℕ = recordBytes r ++ t in
+      let known = ne-eqb (sizeAt s) 0 (λ e. omega arith) in
+      let fits = le-ltb (length s) (sizeAt s) (omega arith) in
+      simp (page, ne-eqb (length s) 0 (λ e. omega arith), known, fits, ap (recordRefusal b) (record-back b r lawful) ∙ lawful)
 
   pub read-bytes : (b : Basis) (r : Record) → sizeRefusal (b .w) (b .h) ≡ 0 → recordRefusal b r ≡ 0 → readingOf b (recordBytes r ++ t) ≡ Found r
   unfolding readingOf

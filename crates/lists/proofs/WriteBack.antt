@@ -1,6 +1,6 @@
 -- The header and the records of an accepted list, written again one after the other, give its own bytes.
 use mathlib.Core.Path.{_≡_, refl, sym, _∙_, ap, ap₂, subst}
-use mathlib.Core.Bool.{Bool, true, false, _&&_}
+use mathlib.Core.Bool.{Bool, _&&_}
 use mathlib.Core.List.{List, [], _∷_, _++_, append-assoc, append-nil}
 use Prim.Native.Nat.{ℕ, zero, suc, _+_, _≤_, _<_}
 use native.Mathlib.Nat.{zero-add}
@@ -11,6 +11,7 @@ use lib.Seq.{take-at, drop-append-add, drop-drop, drop-length, getD-drop, length
 use Rattle.numbers.specs.Coordinate.{bitsOf, signedOf, wordOf, bytesOf}
 use Rattle.numbers.proofs.Coordinate.{bits-signed, bytes-word}
 use Rattle.shapes.specs.Limits.{sized}
+use Rattle.shapes.proofs.Limits.{both-true}
 use Rattle.shapes.specs.declared.Record.{Record}
 use Rattle.lists.specs.Format.{listMost, headerSize, kindSize, kindOf, fieldsOf, headerBytes, recordBytes, wordAt, headerAt, kindAt, sizeAt, decoded, recordAt}
 use Rattle.lists.specs.inner.Record.{Whole}
@@ -58,10 +59,6 @@ coordinate-then {a} {b} {bs} h k e = ap (λ (v : ℕ). bytesOf v ++ bs) (bits-si
 front : {a k : ℕ} {bs cs : List ℕ} → a ≡ k → bs ≡ cs → k ∷ bs ≡ a ∷ cs
 front e f = λ i. sym e i ∷ f i
 
-and-both : (a b : Bool) → a && b ≡ true → (a ≡ true) × (b ≡ true)
-and-both true b e = (refl, e)
-and-both false b e = absurd (let z : _≡_ {A = ℕ} 0 1 = cc in omega arith)
-
 module _ (s : List ℕ) (b : AllBytes s) where
   kind-again : (k : ℕ) → 0 < kindSize k → getD s 0 0 ≡ k → recordBytes (decoded k s) ≡ firsts (kindSize k) 0 s
   unfolding firsts kindSize kindOf fieldsOf decoded
@@ -80,8 +77,8 @@ module _ (s : List ℕ) (b : AllBytes s) where
   pub header-again : {tests : List (Bool × ℕ)} → Headed tests s → headerBytes (headerAt s) ≡ take headerSize s
   unfolding firsts headerBytes
   header-again p =
-      let first = and-both (markAt s 0 && markAt s 1) (markAt s 2) (p .marked) in
-      let second = and-both (markAt s 0) (markAt s 1) (first .0) in
+      let first = both-true (markAt s 0 && markAt s 1) (markAt s 2) (p .marked) in
+      let second = both-true (markAt s 0) (markAt s 1) (first .0) in
       front (eqb-true _ _ (second .0)) (front (eqb-true _ _ (second .1)) (front (eqb-true _ _ (first .1))
       (ap (λ (v : ℕ). bytesOf v ++ bytesOf (wordAt s 5) ++ bytesOf (wordAt s 7) ++ getD s 9 0 ∷ []) (sym (p .versioned))
       ∙ word-then (b 3) (word-then (b 5) (word-then (b 7) refl)))))
@@ -114,7 +111,9 @@ module _ (w h : ℕ) (s : List ℕ) (none : readRefusal (sized w h) s ≡ 0) (b 
   done =
       let p = readable (sized w h) s none in
       let n = long in
-      record-done m place w h (recordAt s) (refusal-none (length m) place (sized w h) (recordAt s) (record { page = p .page; lawful = p .lawful; room = record { behind = low; inside = omega arith; most = omega arith } }))
+      record-done m place w h (recordAt s)
+      (refusal-none (length m) place (sized w h) (recordAt s)
+      (record { page = p .page; lawful = p .lawful; room = record { behind = low; inside = omega arith; most = omega arith } }))
 
   step-list : recordList m place w h (recordAt s) ≡ putAt place (take (sizeAt s) s) m
   step-list = sym (done .1) ∙ ap (λ (bs : List ℕ). putAt place bs m) (record-again s b (readable (sized w h) s none .whole))

@@ -6,7 +6,7 @@ use lib.Dec.{eqb}
 use lib.IntN.{ℤ}
 use lib.ListN.{getD}
 use Rattle.numbers.specs.Coordinate.{bitsOf, signedOf, wordOf, bytesOf}
-use Rattle.shapes.specs.Limits.{first, sized}
+use Rattle.shapes.specs.Limits.{sized}
 use Rattle.shapes.specs.declared.Line.{Line}
 use Rattle.shapes.specs.declared.Disc.{Disc}
 use Rattle.shapes.specs.declared.Ring.{Ring}
@@ -27,52 +27,7 @@ listMost = 65536
 abbrev pub headerSize : ℕ
 headerSize = 10
 
--- how many bytes a record of kind k has, the kind byte with them; 0 for an unknown kind
-unfoldable pub kindSize : ℕ → ℕ
-kindSize k =
-    first ((eqb k 0, 1) ∷ (eqb k 1, 9) ∷ (eqb k 2, 2) ∷ (eqb k 3, 9) ∷ (eqb k 4, 9) ∷ (eqb k 5, 6) ∷ (eqb k 6, 7) ∷ [])
-
--- ---- the bytes of a header and of a record
-
--- the letters INK
-abbrev pub mark : List ℕ
-mark = 73 ∷ 78 ∷ 75 ∷ []
-
-abbrev pub version : ℕ
-version = 1
-
--- some numbers of two bytes, unsigned and signed
-abbrev pub words : List ℕ → List ℕ
-words [] = []
-words (n ∷ ns) = bytesOf n ++ words ns
-
-abbrev pub coordinates : List ℤ → List ℕ
-coordinates [] = []
-coordinates (z ∷ zs) = bytesOf (bitsOf z) ++ coordinates zs
-
-unfoldable pub headerBytes : Header → List ℕ
-headerBytes d = mark ++ words (version ∷ d .w ∷ d .h ∷ []) ++ d .background ∷ []
-
-unfoldable pub kindOf : Record → ℕ
-kindOf end = 0
-kindOf (setting (clip c)) = 1
-kindOf (setting (level v)) = 2
-kindOf (shape (line l)) = cond (l .exact) 3 4
-kindOf (shape (disc d)) = 5
-kindOf (shape (ring g)) = 6
-
-unfoldable pub fieldsOf : Record → List ℕ
-fieldsOf end = []
-fieldsOf (setting (clip c)) = words (c .x0 ∷ c .y0 ∷ c .x1 ∷ c .y1 ∷ [])
-fieldsOf (setting (level v)) = v ∷ []
-fieldsOf (shape (line l)) = coordinates (l .x0 ∷ l .y0 ∷ l .x1 ∷ l .y1 ∷ [])
-fieldsOf (shape (disc d)) = coordinates (d .x ∷ d .y ∷ []) ++ d .radius ∷ []
-fieldsOf (shape (ring g)) = coordinates (g .x ∷ g .y ∷ []) ++ g .radius ∷ g .width ∷ []
-
-abbrev pub recordBytes : Record → List ℕ
-recordBytes r = kindOf r ∷ fieldsOf r
-
--- ---- the header and the record that stand at the front of the bytes s
+-- ---- the header, the clip and the shapes that stand at the front of the bytes s
 
 abbrev pub wordAt : List ℕ → ℕ → ℕ
 wordAt s i = wordOf (getD s i 0) (getD s (i + 1) 0)
@@ -100,22 +55,89 @@ discAt s = record { x = coordinateAt s 1; y = coordinateAt s 3; radius = getD s 
 abbrev pub ringAt : List ℕ → Ring
 ringAt s = record { x = coordinateAt s 1; y = coordinateAt s 3; radius = getD s 5 0; width = getD s 6 0 }
 
+-- ---- the kinds
+
+-- a kind: its number, how many bytes a record has, the kind byte with them, and the record at the front of some bytes
+pub record Kind : Type 0 where
+  pub number : ℕ
+  pub size : ℕ
+  pub found : List ℕ → Record
+
+abbrev kind : ℕ → ℕ → (List ℕ → Record) → Kind
+kind k n r = record { number = k; size = n; found = r }
+
+abbrev pub kinds : List Kind
+kinds =
+    kind 0 1 (λ s. end)
+    ∷ kind 1 9 (λ s. setting (clip (clipAt s)))
+    ∷ kind 2 2 (λ s. setting (level (getD s 1 0)))
+    ∷ kind 3 9 (λ s. shape (line (lineAt true s)))
+    ∷ kind 4 9 (λ s. shape (line (lineAt false s)))
+    ∷ kind 5 6 (λ s. shape (disc (discAt s)))
+    ∷ kind 6 7 (λ s. shape (ring (ringAt s)))
+    ∷ []
+
+-- the size and the record by the row of kind k; 0 and an end record where there is none
+abbrev pub sizeIn : List Kind → ℕ → ℕ
+sizeIn [] k = 0
+sizeIn (r ∷ rs) k = cond (eqb k (r .number)) (r .size) (sizeIn rs k)
+
+abbrev pub foundIn : List Kind → ℕ → List ℕ → Record
+foundIn [] k s = end
+foundIn (r ∷ rs) k s = cond (eqb k (r .number)) (r .found s) (foundIn rs k s)
+
+unfoldable pub kindSize : ℕ → ℕ
+kindSize = sizeIn kinds
+
+unfoldable pub decoded : ℕ → List ℕ → Record
+decoded = foundIn kinds
+
+-- the kind of a record
+unfoldable pub kindOf : Record → ℕ
+kindOf end = 0
+kindOf (setting (clip c)) = 1
+kindOf (setting (level v)) = 2
+kindOf (shape (line l)) = cond (l .exact) 3 4
+kindOf (shape (disc d)) = 5
+kindOf (shape (ring g)) = 6
+
 abbrev pub kindAt : List ℕ → ℕ
 kindAt s = getD s 0 0
 
 abbrev pub sizeAt : List ℕ → ℕ
 sizeAt s = kindSize (kindAt s)
 
--- the record of kind k
-unfoldable pub decoded : ℕ → List ℕ → Record
-decoded k s =
-    cond (eqb k 1) (setting (clip (clipAt s)))
-    (cond (eqb k 2) (setting (level (getD s 1 0)))
-    (cond (eqb k 3) (shape (line (lineAt true s)))
-    (cond (eqb k 4) (shape (line (lineAt false s)))
-    (cond (eqb k 5) (shape (disc (discAt s)))
-    (cond (eqb k 6) (shape (ring (ringAt s)))
-    end)))))
-
 abbrev pub recordAt : List ℕ → Record
 recordAt s = decoded (kindAt s) s
+
+-- ---- the bytes of a header and of a record
+
+-- the letters INK
+abbrev pub mark : List ℕ
+mark = 73 ∷ 78 ∷ 75 ∷ []
+
+abbrev pub version : ℕ
+version = 1
+
+-- some numbers of two bytes, unsigned and signed
+abbrev pub words : List ℕ → List ℕ
+words [] = []
+words (n ∷ ns) = bytesOf n ++ words ns
+
+abbrev pub coordinates : List ℤ → List ℕ
+coordinates [] = []
+coordinates (z ∷ zs) = bytesOf (bitsOf z) ++ coordinates zs
+
+unfoldable pub headerBytes : Header → List ℕ
+headerBytes d = mark ++ words (version ∷ d .w ∷ d .h ∷ []) ++ d .background ∷ []
+
+unfoldable pub fieldsOf : Record → List ℕ
+fieldsOf end = []
+fieldsOf (setting (clip c)) = words (c .x0 ∷ c .y0 ∷ c .x1 ∷ c .y1 ∷ [])
+fieldsOf (setting (level v)) = v ∷ []
+fieldsOf (shape (line l)) = coordinates (l .x0 ∷ l .y0 ∷ l .x1 ∷ l .y1 ∷ [])
+fieldsOf (shape (disc d)) = coordinates (d .x ∷ d .y ∷ []) ++ d .radius ∷ []
+fieldsOf (shape (ring g)) = coordinates (g .x ∷ g .y ∷ []) ++ g .radius ∷ g .width ∷ []
+
+abbrev pub recordBytes : Record → List ℕ
+recordBytes r = kindOf r ∷ fieldsOf r

@@ -213,7 +213,7 @@ fn setting_bytes(setting: Setting) -> [u8; RECORD_MOST]
 }
 
 // The kind of a line.
-fn line_kind(exact: bool) -> u8
+pub fn line_kind(exact: bool) -> u8
     ensures { λ r. ⌜ r ≡ cond exact 3 4 ⌝ }
 {
     if exact { 3 } else { 4 }

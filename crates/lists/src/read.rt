@@ -13,7 +13,7 @@ pub enum Reading {
 }
 
 // The first refusal of the record at the front, or 0.
-pub fn read_refusal(list: &[u8], basis: Basis) -> u8
+pub(crate) fn read_refusal(list: &[u8], basis: Basis) -> u8
     ensures { λ r. ⌜ r ≡ readRefusal basis (now (list .entry)) ⌝ }
 {
     let page = shapes::size_refusal(basis.w, basis.h);

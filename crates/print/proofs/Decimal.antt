@@ -2,20 +2,26 @@
 use mathlib.Core.Logic.{_⊎_, inl, inr}
 use mathlib.Core.Path.{_≡_, refl, ap, _∙_}
 use mathlib.Core.List.{List, [], _∷_, _++_}
-use Prim.Native.Nat.{ℕ, zero, suc, _+_, _-_, _*_, _/_, _%_, _≤_, _<_}
+use Prim.Native.Nat.{ℕ, zero, suc, _+_, _-_, _*_, _/_, _%_, _^_, _≤_, _<_}
+use native.Mathlib.Nat.{pow-succ'}
 use native.Mathlib.Omega.{arith}
 use Rattle.numbers.proofs.Order.{lt-or-le}
-use Rattle.print.specs.Text.{digitOf, digits, valueFrom, tenTo}
+use Rattle.print.specs.Text.{digitOf, digits}
 use Rattle.print.proofs.Written.{digits-one, digits-more}
+
+-- the number that decimal digits stand for, behind those that stand for n
+abbrev pub valueFrom : ℕ → List ℕ → ℕ
+valueFrom n [] = n
+valueFrom n (b ∷ bs) = valueFrom (10 * n + (b - 48)) bs
 
 value-behind : (n b : ℕ) (bs : List ℕ) → valueFrom n (bs ++ b ∷ []) ≡ 10 * valueFrom n bs + (b - 48)
 value-behind n b [] = refl
 value-behind n b (x ∷ xs) = value-behind (10 * n + (x - 48)) b xs
 
-pub digits-value : (k n : ℕ) → n < tenTo k → valueFrom 0 (digits k n) ≡ n
+pub digits-value : (k n : ℕ) → n < 10 ^ k → valueFrom 0 (digits k n) ≡ n
 unfolding digits
 digits-value zero n h = let e : 0 ≡ n = omega arith in e
-digits-value (suc k) n h = go (digits-value k (n / 10) (omega arith)) (lt-or-le n 10)
+digits-value (suc k) n h = go (digits-value k (n / 10) (omega (arith, pow-succ' 10 k))) (lt-or-le n 10)
   where
     go : valueFrom 0 (digits k (n / 10)) ≡ n / 10 → (n < 10) ⊎ (10 ≤ n) → valueFrom 0 (digits (suc k) n) ≡ n
     go before (inl p) = ap (valueFrom 0) (digits-one (suc k) n (omega arith) p) ∙ (let e : 10 * 0 + (48 + n % 10 - 48) ≡ n = omega arith in e)

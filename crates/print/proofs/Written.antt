@@ -56,7 +56,9 @@ levels-end w x i vs p t h whole =
 pub take-min : (n : ℕ) (l : List ℕ) → take (min n (length l)) l ≡ take n l
 take-min zero l = ap (λ (k : ℕ). take k l) (let e : min 0 (length l) ≡ 0 = omega arith in e)
 take-min (suc n) [] = take-nil (min (suc n) 0)
-take-min (suc n) (x ∷ xs) = ap (λ (k : ℕ). take k (x ∷ xs)) (let e : min (suc n) (suc (length xs)) ≡ suc (min n (length xs)) = omega arith in e) ∙ ap (λ (s : List ℕ). x ∷ s) (take-min n xs)
+take-min (suc n) (x ∷ xs) =
+    let e : min (suc n) (suc (length xs)) ≡ suc (min n (length xs)) = omega arith in
+    ap (λ (k : ℕ). take k (x ∷ xs)) e ∙ ap (λ (s : List ℕ). x ∷ s) (take-min n xs)
 
 -- a text behind what was there, and what that was
 pub behind : {t s p : List ℕ} (q : List ℕ) → t ≡ s ++ q → s ≡ p → t ≡ p ++ q

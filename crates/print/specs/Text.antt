@@ -1,7 +1,7 @@
 -- The text of numbers, levels, pages and refusals, byte by byte.
 use mathlib.Core.Bool.{cond, _||_}
 use mathlib.Core.List.{List, [], _∷_, _++_}
-use Prim.Native.Nat.{ℕ, zero, suc, _+_, _-_, _*_, _/_, _%_}
+use Prim.Native.Nat.{ℕ, zero, suc, _+_, _*_, _/_, _%_}
 use lib.Dec.{ltb, eqb}
 use lib.ListN.{take}
 
@@ -50,13 +50,3 @@ headText w h touched =
 -- a page of w by h
 unfoldable pub pageText : ℕ → ℕ → ℕ → List ℕ → List ℕ
 pageText w h touched page = headText w h touched ++ levelsText w 0 (take (w * h) page)
-
--- the number that decimal digits stand for, behind those that stand for n
-abbrev pub valueFrom : ℕ → List ℕ → ℕ
-valueFrom n [] = n
-valueFrom n (b ∷ bs) = valueFrom (10 * n + (b - 48)) bs
-
--- 10^k
-abbrev pub tenTo : ℕ → ℕ
-tenTo zero = 1
-tenTo (suc k) = 10 * tenTo k

@@ -1,7 +1,7 @@
 // The text of a page and of a refusal, written into a buffer.
 ghost use mathlib.Core.Path.{_≡_};
 ghost use mathlib.Core.List.{_++_};
-ghost use Prim.Native.Nat.{_+_, _*_, _%_, _≤_, _<_, min};
+ghost use Prim.Native.Nat.{_+_, _*_, _%_, _≤_, _<_};
 ghost use lib.ListN.{length, take};
 ghost use Rattle.print.specs.Text.{digitOf, digits, number, afterLevel, nextColumn, levelsText, refusalText, headText, pageText};
 
@@ -13,7 +13,7 @@ fn digit(n: u64) -> u8
 }
 
 // Puts bytes at a place of the buffer; hands back the place after them.
-pub fn put_bytes(out: &mut [u8], at: usize, bytes: &[u8]) -> usize
+fn put_bytes(out: &mut [u8], at: usize, bytes: &[u8]) -> usize
     requires { ⌜ at + length (now bytes) ≤ length (now out) ⌝ }
     ensures { λ r. ⌜ (take r (now (out .exit)) ≡ take at (now (out .entry)) ++ now (bytes .entry)) × (r ≡ at + length (now (bytes .entry))) ⌝ }
 {
@@ -44,7 +44,7 @@ fn put_digits(out: &mut [u8], at: usize, n: u64, places: usize) -> usize
 }
 
 // Puts a number and the byte that follows it.
-pub fn put_number(out: &mut [u8], at: usize, n: u64, places: usize, after: u8) -> usize
+fn put_number(out: &mut [u8], at: usize, n: u64, places: usize, after: u8) -> usize
     requires { ⌜ at + places < length (now out) ⌝ }
     ensures { λ r. ⌜ (take r (now (out .exit)) ≡ take at (now (out .entry)) ++ number places n after) × (r ≤ at + places + 1) ⌝ }
 {
@@ -84,7 +84,7 @@ fn next_column(w: usize, x: usize) -> usize
 }
 
 // Puts the levels of a page of width w, row after row.
-pub fn put_levels(out: &mut [u8], at: usize, w: usize, levels: &[u8]) -> usize
+fn put_levels(out: &mut [u8], at: usize, w: usize, levels: &[u8]) -> usize
     requires { ⌜ (at + 4 * length (now levels) ≤ length (now out)) × (length (now levels) ≤ 65536) ⌝ }
     ensures { λ r. ⌜ (take r (now (out .exit)) ≡ take at (now (out .entry)) ++ levelsText w 0 (now (levels .entry))) × (r ≤ at + 4 * length (now (levels .entry))) ⌝ }
 {
@@ -99,15 +99,8 @@ pub fn put_levels(out: &mut [u8], at: usize, w: usize, levels: &[u8]) -> usize
     next
 }
 
-// The smaller of two numbers.
-fn least(a: usize, b: usize) -> usize
-    ensures { λ r. ⌜ r ≡ min a b ⌝ }
-{
-    if a < b { a } else { b }
-}
-
 // Puts the text of a refusal; hands back its length.
-pub fn put_refusal(out: &mut [u8], refusal: u8, place: usize) -> usize
+pub(crate) fn put_refusal(out: &mut [u8], refusal: u8, place: usize) -> usize
     requires { ⌜ 80 ≤ length (now out) ⌝ }
     ensures { λ r. ⌜ (take r (now (out .exit)) ≡ refusalText refusal place) × (r ≤ 80) ⌝ }
 {
@@ -130,11 +123,11 @@ fn put_head(out: &mut [u8], w: u16, h: u16, touched: u64) -> usize
 }
 
 // Puts the text of a page; hands back its length.
-pub fn put_page(out: &mut [u8], page: &[u8], w: u16, h: u16, touched: u64) -> usize
+pub(crate) fn put_page(out: &mut [u8], page: &[u8], w: u16, h: u16, touched: u64) -> usize
     requires { ⌜ (4 * length (now page) + 80 ≤ length (now out)) × (length (now page) ≤ 65536) ⌝ }
     ensures { λ r. ⌜ (take r (now (out .exit)) ≡ pageText w h touched (now (page .entry))) × (r ≤ 4 * length (now (page .entry)) + 80) ⌝ }
 {
     let at = put_head(out, w, h, touched);
-    let n = least((w as usize) * (h as usize), page.len());
+    let n = numbers::lesser((w as u64) * (h as u64), page.len() as u64) as usize;
     put_levels(out, at, w as usize, &page[..n])
 }

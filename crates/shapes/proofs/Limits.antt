@@ -2,14 +2,14 @@
 use mathlib.Core.Path.{_≡_, refl, sym, _∙_, ap, ap₂}
 use mathlib.Core.Bool.{Bool, true, false, not, cond, _&&_, _||_}
 use mathlib.Core.Logic.{_⊎_, inl, inr}
-use Prim.Native.Nat.{ℕ, zero, suc, _+_, _≤_, _<_}
+use Prim.Native.Nat.{ℕ, zero, suc, _+_, _^_, _≤_, _<_}
 use native.Mathlib.Omega.{arith}
 use borrow.Author.Tests.{lt-ltb, le-ltb, eq-eqb, ne-eqb, not-false, ltb-false}
 use lib.Dec.{T, ltb, eqb}
 use lib.IntN.{ℤ}
-use lib.Signed.{leZ}
-use mir.Syntax.{w16}
-use mir.Val.{SFits, toZ, ofZ}
+use lib.Signed.{leZ, mag}
+use mir.Syntax.{Width, w16}
+use mir.Val.{SFits, hbits, toZ, ofZ}
 use mir.Facts.{toZ-ofZ}
 use Rattle.numbers.specs.inner.Order.{dist}
 use Rattle.numbers.specs.Coordinate.{inRange}
@@ -43,6 +43,10 @@ tried-clear (suc f) m e = absurd (let k = rw (lt-ltb 0 (suc f) (omega arith)) at
 pub or-clear : (a b : Bool) → a || b ≡ false → (a ≡ false) × (b ≡ false)
 or-clear true b e = absurd (let z : _≡_ {A = ℕ} 0 1 = cc in omega arith)
 or-clear false b e = (refl, e)
+
+pub both-true : (a b : Bool) → a && b ≡ true → (a ≡ true) × (b ≡ true)
+both-true true b e = (refl, e)
+both-true false b e = absurd (let z : _≡_ {A = ℕ} 0 1 = cc in omega arith)
 
 -- a refusal that is tried last is the answer
 pub tried-last : (f : ℕ) → cond (ltb 0 f) f 0 ≡ f
@@ -86,6 +90,12 @@ same-offset {a} {b} p q = go (eq-or-ne (offsetOf a) (offsetOf b))
     go (inr f) =
         T-false (same a b) (λ t. f (let h = T-both (leZ a b) (leZ b a) t in omega (arith, diff-le (p .diff) (q .diff) (h .0), diff-le (q .diff) (p .diff) (h .1))))
         ∙ sym (ne-eqb (offsetOf a) (offsetOf b) f)
+
+-- a local of some width gives back the number that it was given
+pub kept : (w : Width) (z : ℤ) → mag z < 2 ^ hbits w → toZ w (ofZ w z) ≡ z
+kept w z h =
+    let fits : SFits w z = record { sfits = h } in
+    toZ-ofZ fits
 
 -- a point's offsets from what a local gives back of its coordinates
 pub point-kept : {x y : ℤ} {p : Point} → SFits w16 x → SFits w16 y → p ≡ pointOf (toZ w16 (ofZ w16 x)) (toZ w16 (ofZ w16 y)) → p ≡ pointOf x y

@@ -7,7 +7,7 @@ use Rattle.lists.specs.Write.{headerWritten, headerList, recordWritten, recordL
 use Rattle.lists.specs.declared.format.Header.{Header}
 use Rattle.lists.specs.declared.write.Written.{Written}
 use Rattle.writer.specs.declared.Writer.{Writer}
-use Rattle.writer.specs.declared.Pair.{Pair}
+use Rattle.writer.specs.declared.Started.{Started}
 
 -- the answer of a write by a writer
 abbrev pub headerBy : Writer → Header → Written
@@ -33,8 +33,8 @@ headerFirst l d = headerWritten l 0 0 0 d
 abbrev pub recordSecond : List ℕ → Header → Record → Written
 recordSecond l d r = recordWritten (headerList l d) (headerFirst l d .place) (headerFirst l d .w) (headerFirst l d .h) r
 
-abbrev pub pairOf : List ℕ → Header → Record → Pair
-pairOf l d r = record { header = headerFirst l d .refusal; rec = recordSecond l d r .refusal; place = recordSecond l d r .place }
+abbrev pub startedOf : List ℕ → Header → Record → Started
+startedOf l d r = record { header = headerFirst l d .refusal; rec = recordSecond l d r .refusal; place = recordSecond l d r .place }
 
-abbrev pub pairList : List ℕ → Header → Record → List ℕ
-pairList l d r = recordList (headerList l d) (headerFirst l d .place) (headerFirst l d .w) (headerFirst l d .h) r
+abbrev pub startedList : List ℕ → Header → Record → List ℕ
+startedList l d r = recordList (headerList l d) (headerFirst l d .place) (headerFirst l d .w) (headerFirst l d .h) r

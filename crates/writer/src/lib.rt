@@ -1,7 +1,7 @@
 // The writer of a drawing list: the list being written together with the place reached, W and H.
 // The work is done by `lists::write`; the thin functions take the writer apart and store what is answered.
 ghost use mathlib.Core.Path.{_≡_};
-ghost use Rattle.writer.specs.Writer.{headerBy, recordBy, headed, recorded, pairOf, pairList};
+ghost use Rattle.writer.specs.Writer.{headerBy, recordBy, headed, recorded, startedOf, startedList};
 use lists::format::Header;
 use shapes::Record;
 
@@ -47,15 +47,15 @@ pub fn write_record<'s, 'a>(writer: &'s mut Writer<'a>, rec: Record) -> u8
 }
 
 // The answers for a header and for one record behind it, and the place that is reached.
-pub struct Pair {
+pub struct Started {
     pub header: u8,
     pub rec: u8,
     pub place: usize,
 }
 
-// Writes a header and one record, from plain parameters.
-pub fn write_pair(list: &mut [u8], header: Header, rec: Record) -> Pair
-    ensures { λ r. ⌜ (r ≡ pairOf (now (list .entry)) header rec) × (now (list .exit) ≡ pairList (now (list .entry)) header rec) ⌝ }
+// Starts a list: a header and a first record, from plain parameters. It shows how a caller uses the writer.
+pub fn start_list(list: &mut [u8], header: Header, rec: Record) -> Started
+    ensures { λ r. ⌜ (r ≡ startedOf (now (list .entry)) header rec) × (now (list .exit) ≡ startedList (now (list .entry)) header rec) ⌝ }
 {
     let mut writer = Writer {
         list: list,
@@ -65,7 +65,7 @@ pub fn write_pair(list: &mut [u8], header: Header, rec: Record) -> Pair
     };
     let first = write_header(&mut writer, header);
     let second = write_record(&mut writer, rec);
-    Pair {
+    Started {
         header: first,
         rec: second,
         place: writer.place,

@@ -1,15 +1,10 @@
+-- The text of what the list answers, with the page that it leaves.
 use mathlib.Core.Path.{ap₂, _∙_}
 use native.Mathlib.Omega.{arith}
 use Rattle.print.specs.Printed.{answerText, listText}
 use borrow.Author.Needs.{needs}
 use Rattle.print.proofs.put_list.Statement.{statement}
 use Rattle.print.proofs.put_list.Tie as tie
-
-draw-list-requires : tie.Need-draw-list-requires
-draw-list-requires c κs = search needs
-
-put-answer-requires : tie.Need-put-answer-requires
-put-answer-requires c κs = search needs
 
 returns : tie.Need-returns
 unfolding listText
@@ -18,4 +13,4 @@ returns c =
     (c .put-answer .ensures .0 ∙ ap₂ answerText (drawn .answer) (drawn .page), omega arith)
 
 pub put-list-spec : {M : Type 1} → statement M
-put-list-spec = tie.close (tie.spec draw-list-requires put-answer-requires returns)
+put-list-spec = tie.close (tie.spec (λ c κs. search needs) (λ c κs. search needs) returns)

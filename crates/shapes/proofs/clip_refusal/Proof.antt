@@ -1,3 +1,4 @@
+-- The four tests of `offPage`, one after the other.
 use borrow.Author.Tests.{lt-leb, le-leb}
 use Rattle.shapes.specs.Limits.{clipRefusal, offPage}
 use Rattle.shapes.proofs.clip_refusal.Statement.{statement}
@@ -13,15 +14,23 @@ returns-2 c = simp (le-leb _ _ (c .before .before .if1 .left), lt-leb _ _ (c .if
 
 returns-3 : tie.Need-returns-3
 unfolding clipRefusal offPage
-returns-3 c = simp (le-leb _ _ (c .before .before .before .before .if1 .left), le-leb _ _ (c .before .before .if2 .left), lt-leb _ _ (c .if3 .taken))
+returns-3 c =
+    let two = c .before .before in
+    simp (le-leb _ _ (two .before .before .if1 .left), le-leb _ _ (two .if2 .left), lt-leb _ _ (c .if3 .taken))
 
 returns-4 : tie.Need-returns-4
 unfolding clipRefusal offPage
-returns-4 c = simp (le-leb _ _ (c .before .before .before .before .before .before .if1 .left), le-leb _ _ (c .before .before .before .before .if2 .left), le-leb _ _ (c .before .before .if3 .left), lt-leb _ _ (c .if4 .taken))
+returns-4 c =
+    let three = c .before .before in
+    let two = three .before .before in
+    simp (le-leb _ _ (two .before .before .if1 .left), le-leb _ _ (two .if2 .left), le-leb _ _ (three .if3 .left), lt-leb _ _ (c .if4 .taken))
 
 returns-5 : tie.Need-returns-5
 unfolding clipRefusal offPage
-returns-5 c = simp (le-leb _ _ (c .before .before .before .before .before .before .if1 .left), le-leb _ _ (c .before .before .before .before .if2 .left), le-leb _ _ (c .before .before .if3 .left), le-leb _ _ (c .if4 .left))
+returns-5 c =
+    let three = c .before .before in
+    let two = three .before .before in
+    simp (le-leb _ _ (two .before .before .if1 .left), le-leb _ _ (two .if2 .left), le-leb _ _ (three .if3 .left), le-leb _ _ (c .if4 .left))
 
 pub clip-refusal-spec : {M : Type 1} → statement M
 clip-refusal-spec = tie.close (tie.spec returns returns-2 returns-3 returns-4 returns-5)

@@ -1,29 +1,22 @@
-use Rattle.numbers.proofs.Coordinate.{offset-kept}
+-- Each coordinate comes back from its local as it was, so its offset is the end's.
 use borrow.Author.Needs.{needs}
+use Rattle.numbers.proofs.Coordinate.{offset-kept}
 use Rattle.shapes.proofs.ends_of.Statement.{statement}
 use Rattle.shapes.proofs.ends_of.Tie as tie
 
-offset-requires : tie.Need-offset-requires
-offset-requires c κs = search needs
-
-offset-requires-2 : tie.Need-offset-requires-2
-offset-requires-2 c κs = search needs
-
-offset-requires-3 : tie.Need-offset-requires-3
-offset-requires-3 c κs = search needs
-
-offset-requires-4 : tie.Need-offset-requires-4
-offset-requires-4 c κs = search needs
-
 returns : tie.Need-returns
 returns c =
-    let e0 = offset-kept (record { sfits = c .before .before .before .before .before .before .before .struct-told .given .1 .0 .1 }) (c .before .before .before .before .before .before .offset .ensures) in
-    let f0 = offset-kept (record { sfits = c .before .before .before .before .before .before .before .struct-told .given .1 .1 .0 .1 }) (c .before .before .before .before .offset2 .ensures) in
-    let e1 = offset-kept (record { sfits = c .before .before .before .before .before .before .before .struct-told .given .1 .1 .1 .0 .1 }) (c .before .before .offset3 .ensures) in
-    let f1 = offset-kept (record { sfits = c .before .before .before .before .before .before .before .struct-told .given .1 .1 .1 .1 .0 .1 }) (c .offset4 .ensures) in
+    let three = c .before .before in
+    let two = three .before .before in
+    let one = two .before .before in
+    let known = one .before .struct-told .given .1 in
+    let e0 = offset-kept (record { sfits = known .0 .1 }) (one .offset .ensures) in
+    let f0 = offset-kept (record { sfits = known .1 .0 .1 }) (two .offset2 .ensures) in
+    let e1 = offset-kept (record { sfits = known .1 .1 .0 .1 }) (three .offset3 .ensures) in
+    let f1 = offset-kept (record { sfits = known .1 .1 .1 .0 .1 }) (c .offset4 .ensures) in
     λ i. record { x0 = e0 i; y0 = f0 i; x1 = e1 i; y1 = f1 i }
 
 pub ends-of-spec : {M : Type 1} → statement M
 ends-of-spec =
     tie.close
-    (tie.spec offset-requires offset-requires-2 offset-requires-3 offset-requires-4 returns)
+    (tie.spec (λ c κs. search needs) (λ c κs. search needs) (λ c κs. search needs) (λ c κs. search needs) returns)

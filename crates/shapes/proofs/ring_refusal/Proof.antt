@@ -1,43 +1,54 @@
-use mathlib.Core.Path.{_≡_}
+-- The refusal of the disc around the ring, then the two tests of the width, as `ring-refusals` has them.
+use mathlib.Core.Path.{_≡_, sym, _∙_, ap₂, subst}
 use mathlib.Core.Bool.{cond, _||_}
-use Prim.Native.Nat.{ℕ, _<_}
-use borrow.Author.Tests.{lt-ltb, le-ltb}
-use lib.Dec.{ltb}
-use lib.Signed.{mag}
+use Prim.Native.Nat.{ℕ}
 use mir.Syntax.{w16}
-use mir.Val.{SFits, toZ, ofZ}
-use mir.Facts.{toZ-ofZ}
+use borrow.Author.Needs.{needs}
+use borrow.Author.Tests.{lt-ltb, le-ltb}
+use lib.IntN.{ℤ}
+use lib.Dec.{ltb}
 use Rattle.shapes.specs.Limits.{shapeRefusal}
 use Rattle.shapes.specs.declared.Ring.{Ring}
 use Rattle.shapes.specs.declared.Shape.the-variants.{Disc as disc, Ring as ring}
-use Rattle.shapes.proofs.Limits.{ring-refusals}
-use borrow.Author.Needs.{needs}
+use Rattle.shapes.proofs.Limits.{ring-refusals, kept}
 use Rattle.shapes.proofs.ring_refusal.Statement.{statement}
 use Rattle.shapes.proofs.ring_refusal.Tie as tie
 
--- what is tried, by the answer for the disc around the ring
-told : (g : Ring) (f : ℕ) → mag (g .x) < 32768 → mag (g .y) < 32768
-    → f ≡ shapeRefusal (disc (record { x = toZ w16 (ofZ w16 (g .x)); y = toZ w16 (ofZ w16 (g .y)); radius = g .radius }))
-    → shapeRefusal (ring g) ≡ cond (ltb 0 f) f (cond (ltb (g .width) 1 || ltb (g .radius) (g .width)) 11 0)
-told g f p q e =
-    let fx : SFits w16 (g .x) = record { sfits = p } in
-    let fy : SFits w16 (g .y) = record { sfits = q } in
-    rw (rw (toZ-ofZ fx, toZ-ofZ fy) at e) (ring-refusals g)
+module _ (c : tie.After-disc-refusal) where
+  abbrev g : Ring
+  g = c .before .before .args .ring
 
-disc-refusal-requires : tie.Need-disc-refusal-requires
-disc-refusal-requires c κs = search needs
+  abbrev f : ℕ
+  f = c .disc-refusal .result
+
+  abbrev Told : ℕ → Type 0
+  Told k = shapeRefusal (ring g) ≡ cond (ltb 0 k) k (cond (ltb (g .width) 1 || ltb (g .radius) (g .width)) 11 0)
+
+  told : Told f
+  told =
+      let known = c .before .struct-told .given in
+      let same = ap₂ (λ (x y : ℤ). shapeRefusal (disc (record { x = x; y = y; radius = g .radius }))) (kept w16 (g .x) (known .0 .1)) (kept w16 (g .y) (known .1 .0 .1)) in
+      subst Told (sym (c .disc-refusal .ensures ∙ same)) (ring-refusals g)
 
 returns : tie.Need-returns
-returns c = simp (told (c .before .before .before .args .ring) (c .before .disc-refusal .result) (c .before .before .struct-told .given .0 .1) (c .before .before .struct-told .given .1 .0 .1) (c .before .disc-refusal .ensures), lt-ltb _ _ (c .if1 .taken))
+returns c = simp (told (c .before), lt-ltb _ _ (c .if1 .taken))
 
 returns-2 : tie.Need-returns-2
-returns-2 c = simp (told (c .before .before .before .before .before .args .ring) (c .before .before .before .disc-refusal .result) (c .before .before .before .before .struct-told .given .0 .1) (c .before .before .before .before .struct-told .given .1 .0 .1) (c .before .before .before .disc-refusal .ensures), le-ltb _ _ (c .before .before .if1 .left), lt-ltb _ _ (c .if2 .taken))
+returns-2 c =
+    let one = c .before .before in
+    simp (told (one .before), le-ltb _ _ (one .if1 .left), lt-ltb _ _ (c .if2 .taken))
 
 returns-3 : tie.Need-returns-3
-returns-3 c = simp (told (c .before .before .before .before .before .before .before .args .ring) (c .before .before .before .before .before .disc-refusal .result) (c .before .before .before .before .before .before .struct-told .given .0 .1) (c .before .before .before .before .before .before .struct-told .given .1 .0 .1) (c .before .before .before .before .before .disc-refusal .ensures), le-ltb _ _ (c .before .before .before .before .if1 .left), le-ltb _ _ (c .before .before .if2 .left), lt-ltb _ _ (c .if3 .taken))
+returns-3 c =
+    let two = c .before .before in
+    let one = two .before .before in
+    simp (told (one .before), le-ltb _ _ (one .if1 .left), le-ltb _ _ (two .if2 .left), lt-ltb _ _ (c .if3 .taken))
 
 returns-4 : tie.Need-returns-4
-returns-4 c = simp (told (c .before .before .before .before .before .before .before .args .ring) (c .before .before .before .before .before .disc-refusal .result) (c .before .before .before .before .before .before .struct-told .given .0 .1) (c .before .before .before .before .before .before .struct-told .given .1 .0 .1) (c .before .before .before .before .before .disc-refusal .ensures), le-ltb _ _ (c .before .before .before .before .if1 .left), le-ltb _ _ (c .before .before .if2 .left), le-ltb _ _ (c .if3 .left))
+returns-4 c =
+    let two = c .before .before in
+    let one = two .before .before in
+    simp (told (one .before), le-ltb _ _ (one .if1 .left), le-ltb _ _ (two .if2 .left), le-ltb _ _ (c .if3 .left))
 
 pub ring-refusal-spec : {M : Type 1} → statement M
-ring-refusal-spec = tie.close (tie.spec disc-refusal-requires returns returns-2 returns-3 returns-4)
+ring-refusal-spec = tie.close (tie.spec (λ c κs. search needs) returns returns-2 returns-3 returns-4)

@@ -1,17 +1,12 @@
+-- The library's answer in C's form.
 use mathlib.Core.Path.{_∙_, ap}
 use borrow.Author.Needs.{needs}
 use Rattle.greystroke.specs.Lists.{checkAnswer}
 use Rattle.greystroke.proofs.list.greystroke_check_list.Statement.{statement}
 use Rattle.greystroke.proofs.list.greystroke_check_list.Tie as tie
 
-check-list-requires : tie.Need-check-list-requires
-check-list-requires c κs = search needs
-
-check-answer-requires : tie.Need-check-answer-requires
-check-answer-requires c κs = search needs
-
 returns : tie.Need-returns
 returns c = c .check-answer .ensures ∙ ap checkAnswer (c .before .check-list .ensures)
 
 pub greystroke-check-list-spec : {M : Type 1} → statement M
-greystroke-check-list-spec = tie.close (tie.spec check-list-requires check-answer-requires returns)
+greystroke-check-list-spec = tie.close (tie.spec (λ c κs. search needs) (λ c κs. search needs) returns)

@@ -1,17 +1,12 @@
+-- The library's answer in C's form.
 use mathlib.Core.Path.{_∙_, ap}
 use borrow.Author.Needs.{needs}
 use Rattle.greystroke.specs.Lists.{readAnswer}
 use Rattle.greystroke.proofs.list.greystroke_read_record.Statement.{statement}
 use Rattle.greystroke.proofs.list.greystroke_read_record.Tie as tie
 
-read-record-requires : tie.Need-read-record-requires
-read-record-requires c κs = search needs
-
-read-answer-requires : tie.Need-read-answer-requires
-read-answer-requires c κs = search needs
-
 returns : tie.Need-returns
 returns c = c .read-answer .ensures ∙ ap readAnswer (c .before .read-record .ensures)
 
 pub greystroke-read-record-spec : {M : Type 1} → statement M
-greystroke-read-record-spec = tie.close (tie.spec read-record-requires read-answer-requires returns)
+greystroke-read-record-spec = tie.close (tie.spec (λ c κs. search needs) (λ c κs. search needs) returns)

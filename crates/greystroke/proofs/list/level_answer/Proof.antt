@@ -1,17 +1,15 @@
+-- A byte in 32 bits, and the size of the kind.
 use mathlib.Core.Path.{_∙_}
-use Rattle.greystroke.proofs.Widths.{held}
-use Rattle.lists.specs.Format.{kindOf, fieldsOf}
+use mir.Syntax.{w32}
+use Rattle.shapes.proofs.Limits.{kept}
+use Rattle.lists.specs.Format.{kindSize, kindOf, fieldsOf}
 use borrow.Author.Needs.{needs}
 use Rattle.greystroke.proofs.list.level_answer.Statement.{statement}
 use Rattle.greystroke.proofs.list.level_answer.Tie as tie
 
-wide-unsigned-requires : tie.Need-wide-unsigned-requires
-wide-unsigned-requires c κs = search needs
-
 returns : tie.Need-returns
-unfolding kindOf fieldsOf
-returns c =
-    rw (held (c .wide-unsigned .ok) ∙ c .wide-unsigned .ensures)
+unfolding kindSize kindOf fieldsOf
+returns c = rw (c .before .size-of .ensures, kept w32 _ (c .wide-unsigned .ok) ∙ c .wide-unsigned .ensures)
 
 pub level-answer-spec : {M : Type 1} → statement M
-level-answer-spec = tie.close (tie.spec wide-unsigned-requires returns)
+level-answer-spec = tie.close (tie.spec (λ c κs. search needs) (λ c κs. search needs) returns)

@@ -1,3 +1,4 @@
+-- What 16 bits hold, 32 bits hold.
 use mathlib.Core.Path.{_∙_}
 use native.Mathlib.Omega.{arith}
 use lib.IntN.{ℤ}

@@ -1,3 +1,4 @@
+-- What 16 bits hold, 32 bits hold with a sign.
 use native.Mathlib.Omega.{arith}
 use mir.Syntax.{w32}
 use mir.Facts.{toZ-pos}
@@ -5,11 +6,8 @@ use borrow.Author.Needs.{needs}
 use Rattle.greystroke.proofs.list.wide_unsigned.Statement.{statement}
 use Rattle.greystroke.proofs.list.wide_unsigned.Tie as tie
 
-cast-result : tie.Need-cast-result
-cast-result c = search needs
-
 returns : tie.Need-returns
 returns c = toZ-pos w32 {n = c .args .n} (omega arith)
 
 pub wide-unsigned-spec : {M : Type 1} → statement M
-wide-unsigned-spec = tie.close (tie.spec cast-result returns)
+wide-unsigned-spec = tie.close (tie.spec (λ c. search needs) returns)

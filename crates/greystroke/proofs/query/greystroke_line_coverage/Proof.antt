@@ -1,10 +1,8 @@
+-- The query of the line that the numbers make.
 use mir.Facts.{toZ-ofZ}
 use borrow.Author.Needs.{needs}
 use Rattle.greystroke.proofs.query.greystroke_line_coverage.Statement.{statement}
 use Rattle.greystroke.proofs.query.greystroke_line_coverage.Tie as tie
-
-query-requires : tie.Need-query-requires
-query-requires c κs = search needs
 
 returns : tie.Need-returns
 returns c =
@@ -12,4 +10,4 @@ returns c =
     rw (toZ-ofZ (fits .x0), toZ-ofZ (fits .y0), toZ-ofZ (fits .x1), toZ-ofZ (fits .y1), toZ-ofZ (fits .x), toZ-ofZ (fits .y)) at (c .query .ensures)
 
 pub greystroke-line-coverage-spec : {M : Type 1} → statement M
-greystroke-line-coverage-spec = tie.close (tie.spec query-requires returns)
+greystroke-line-coverage-spec = tie.close (tie.spec (λ c κs. search needs) returns)

@@ -1,16 +1,8 @@
+-- The clip and the line that the numbers make, drawn.
 use mir.Facts.{toZ-ofZ}
 use borrow.Author.Needs.{needs}
 use Rattle.greystroke.proofs.shape.greystroke_draw_line.Statement.{statement}
 use Rattle.greystroke.proofs.shape.greystroke_draw_line.Tie as tie
-
-clip-of-requires : tie.Need-clip-of-requires
-clip-of-requires c κs = search needs
-
-draw-requires : tie.Need-draw-requires
-draw-requires c κs = search needs
-
-same-length : tie.Need-same-length
-same-length c = search needs
 
 returns : tie.Need-returns
 returns c =
@@ -18,4 +10,4 @@ returns c =
     rw (c .before .before .before .before .clip-of .ensures, toZ-ofZ (fits .x0), toZ-ofZ (fits .y0), toZ-ofZ (fits .x1), toZ-ofZ (fits .y1)) at (c .before .before .draw .ensures)
 
 pub greystroke-draw-line-spec : {M : Type 1} → statement M
-greystroke-draw-line-spec = tie.close (tie.spec clip-of-requires draw-requires same-length returns)
+greystroke-draw-line-spec = tie.close (tie.spec (λ c κs. search needs) (λ c κs. search needs) (λ c. search needs) returns)

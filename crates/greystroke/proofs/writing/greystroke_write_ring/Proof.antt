@@ -1,13 +1,8 @@
+-- The ring that the numbers make, written.
 use mir.Facts.{toZ-ofZ}
 use borrow.Author.Needs.{needs}
 use Rattle.greystroke.proofs.writing.greystroke_write_ring.Statement.{statement}
 use Rattle.greystroke.proofs.writing.greystroke_write_ring.Tie as tie
-
-write-requires : tie.Need-write-requires
-write-requires c κs = search needs
-
-same-length : tie.Need-same-length
-same-length c = search needs
 
 returns : tie.Need-returns
 returns c =
@@ -15,4 +10,4 @@ returns c =
     rw (toZ-ofZ (fits .cx), toZ-ofZ (fits .cy)) at (c .before .before .write .ensures)
 
 pub greystroke-write-ring-spec : {M : Type 1} → statement M
-greystroke-write-ring-spec = tie.close (tie.spec write-requires same-length returns)
+greystroke-write-ring-spec = tie.close (tie.spec (λ c κs. search needs) (λ c. search needs) returns)

@@ -12,9 +12,6 @@ use Rattle.lists.proofs.Refusals.{headed, refused-first, refused-next, 
 use Rattle.lists.proofs.check.check_list.Statement.{statement}
 use Rattle.lists.proofs.check.check_list.Tie as tie
 
-header-refusal-requires : tie.Need-header-refusal-requires
-header-refusal-requires c κs = search needs
-
 returns : tie.Need-returns
 returns c = ap (checkedAs _) (sym (refused-first _ _ (c .before .header-refusal .ensures) (c .if1 .taken)))
 
@@ -27,9 +24,6 @@ module _ (c : tie.Else1) where
 
 read-header-requires : tie.Need-read-header-requires
 read-header-requires c κs = headed [] (list c) (none c) .least
-
-page-refusal-requires : tie.Need-page-refusal-requires
-page-refusal-requires c κs = search needs
 
 returns-2 : tie.Need-returns-2
 returns-2 c =
@@ -50,10 +44,10 @@ pub check-list-spec : {M : Type 1} → statement M
 check-list-spec =
     tie.close
     (tie.spec
-    header-refusal-requires
+    (λ c κs. search needs)
     returns
     read-header-requires
-    page-refusal-requires
+    (λ c κs. search needs)
     returns-2
     check-records-requires
     returns-3)

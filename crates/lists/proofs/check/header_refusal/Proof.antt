@@ -22,17 +22,11 @@ returns-2 : tie.Need-returns-2
 unfolding headerRefusal
 returns-2 c = simp (le-ltb _ _ (c .before .if1 .left), lt-ltb _ _ (c .if2 .taken))
 
-has-mark-requires : tie.Need-has-mark-requires
-has-mark-requires c κs = search needs
-
 returns-3 : tie.Need-returns-3
 unfolding headerRefusal
 returns-3 c =
     let two = c .before .before in
     simp (le-ltb _ _ (two .before .if1 .left), le-ltb _ _ (two .if2 .left), ← c .before .has-mark .ensures, c .if3 .taken)
-
-word-at-requires : tie.Need-word-at-requires
-word-at-requires c κs = search needs
 
 returns-4 : tie.Need-returns-4
 unfolding headerRefusal
@@ -41,12 +35,6 @@ returns-4 c =
     let two = three .before .before in
     let other = ne-eqb (wordAt (list two) 3) 1 (λ e. c .if4 .taken (c .before .word-at .ensures ∙ e)) in
     simp (le-ltb _ _ (two .before .if1 .left), le-ltb _ _ (two .if2 .left), ← three .before .has-mark .ensures, three .if3 .left, other)
-
-read-header-requires : tie.Need-read-header-requires
-read-header-requires c κs = search needs
-
-size-refusal-requires : tie.Need-size-refusal-requires
-size-refusal-requires c κs = search needs
 
 returns-5 : tie.Need-returns-5
 unfolding headerRefusal
@@ -64,10 +52,9 @@ header-refusal-spec =
     (tie.spec
     returns
     returns-2
-    has-mark-requires
+    (λ c κs. search needs)
     returns-3
-    word-at-requires
+    (λ c κs. search needs)
     returns-4
-    read-header-requires
-    size-refusal-requires
+    (λ c κs. search needs) (λ c κs. search needs)
     returns-5)

@@ -4,15 +4,6 @@ use borrow.Author.Tests.{lt-ltb, le-ltb}
 use Rattle.lists.proofs.check.page_refusal.Statement.{statement}
 use Rattle.lists.proofs.check.page_refusal.Tie as tie
 
-cast-product : tie.Need-cast-product
-cast-product c = search needs
-
-cast-product-2 : tie.Need-cast-product-2
-cast-product-2 c = search needs
-
-product-requires : tie.Need-product-requires
-product-requires c κs = search needs
-
 returns : tie.Need-returns
 returns c = rw (← c .before .product .ensures .is, lt-ltb _ _ (c .if1 .taken))
 
@@ -20,4 +11,4 @@ returns-2 : tie.Need-returns-2
 returns-2 c = rw (← c .before .product .ensures .is, le-ltb _ _ (c .if1 .left))
 
 pub page-refusal-spec : {M : Type 1} → statement M
-page-refusal-spec = tie.close (tie.spec cast-product cast-product-2 product-requires returns returns-2)
+page-refusal-spec = tie.close (tie.spec (λ c. search needs) (λ c. search needs) (λ c κs. search needs) returns returns-2)

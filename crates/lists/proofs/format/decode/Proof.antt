@@ -1,4 +1,6 @@
-use mathlib.Core.Path.{ap}
+-- Each arm reads what the row of its kind says. A record that stands whole has the bytes that its kind needs.
+use mathlib.Core.Path.{_≡_, refl, ap}
+use mathlib.Core.Bool.{Bool, true, false, cond}
 use borrow.Author.Needs.{needs}
 use borrow.Author.Tests.{ne-eqb}
 use Rattle.lists.specs.Format.{kindSize, decoded}
@@ -6,14 +8,16 @@ use Rattle.lists.proofs.format.decode.Statement.{statement}
 use Rattle.shapes.specs.declared.Clip.{Clip}
 use Rattle.shapes.specs.declared.Disc.{Disc}
 use Rattle.shapes.specs.declared.Line.{Line}
-use Rattle.shapes.specs.declared.Record.the-variants.{Setting as setting, Shape as shape}
+use Rattle.shapes.specs.declared.Record.the-variants.{End as end, Setting as setting, Shape as shape}
 use Rattle.shapes.specs.declared.Ring.{Ring}
 use Rattle.shapes.specs.declared.Setting.the-variants.{Clip as clip}
 use Rattle.shapes.specs.declared.Shape.the-variants.{Line as line, Disc as disc, Ring as ring}
 use Rattle.lists.proofs.format.decode.Tie as tie
 
-shared-slice-read-kind : tie.Need-shared-slice-read-kind
-shared-slice-read-kind c = search needs
+-- the end record has a row of its own, and stands for a kind that has none
+either-end : (b : Bool) → cond b end end ≡ end
+either-end true = refl
+either-end false = refl
 
 clip-at-requires : tie.Need-clip-at-requires
 unfolding kindSize
@@ -79,13 +83,13 @@ returns-7 : tie.Need-returns-7
 unfolding decoded
 returns-7 c =
     let r = c .match .rest in
-    simp (ne-eqb _ _ (r .1), ne-eqb _ _ (r .0 .1), ne-eqb _ _ (r .0 .0 .1), ne-eqb _ _ (r .0 .0 .0 .1), ne-eqb _ _ (r .0 .0 .0 .0 .1), ne-eqb _ _ (r .0 .0 .0 .0 .0 .1))
+    simp (ne-eqb _ _ (r .1), ne-eqb _ _ (r .0 .1), ne-eqb _ _ (r .0 .0 .1), ne-eqb _ _ (r .0 .0 .0 .1), ne-eqb _ _ (r .0 .0 .0 .0 .1), ne-eqb _ _ (r .0 .0 .0 .0 .0 .1), either-end)
 
 pub decode-spec : {M : Type 1} → statement M
 decode-spec =
     tie.close
     (tie.spec
-    shared-slice-read-kind
+    (λ c. search needs)
     clip-at-requires
     shared-slice-read-t9
     line-at-requires

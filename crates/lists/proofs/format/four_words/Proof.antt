@@ -1,42 +1,7 @@
+-- The array holds the bytes of the four words one after the other, and zeros.
 use borrow.Author.Needs.{needs}
 use Rattle.lists.proofs.format.four_words.Statement.{statement}
 use Rattle.lists.proofs.format.four_words.Tie as tie
-
-word-bytes-requires : tie.Need-word-bytes-requires
-word-bytes-requires c κs = search needs
-
-word-bytes-requires-2 : tie.Need-word-bytes-requires-2
-word-bytes-requires-2 c κs = search needs
-
-word-bytes-requires-3 : tie.Need-word-bytes-requires-3
-word-bytes-requires-3 c κs = search needs
-
-word-bytes-requires-4 : tie.Need-word-bytes-requires-4
-word-bytes-requires-4 c κs = search needs
-
-array-read-t13 : tie.Need-array-read-t13
-array-read-t13 c = search needs
-
-array-read-t16 : tie.Need-array-read-t16
-array-read-t16 c = search needs
-
-array-read-t19 : tie.Need-array-read-t19
-array-read-t19 c = search needs
-
-array-read-t22 : tie.Need-array-read-t22
-array-read-t22 c = search needs
-
-array-read-t25 : tie.Need-array-read-t25
-array-read-t25 c = search needs
-
-array-read-t28 : tie.Need-array-read-t28
-array-read-t28 c = search needs
-
-array-read-t31 : tie.Need-array-read-t31
-array-read-t31 c = search needs
-
-array-read-t34 : tie.Need-array-read-t34
-array-read-t34 c = search needs
 
 returns : tie.Need-returns
 returns c =
@@ -48,16 +13,7 @@ pub four-words-spec : {M : Type 1} → statement M
 four-words-spec =
     tie.close
     (tie.spec
-    word-bytes-requires
-    word-bytes-requires-2
-    word-bytes-requires-3
-    word-bytes-requires-4
-    array-read-t13
-    array-read-t16
-    array-read-t19
-    array-read-t22
-    array-read-t25
-    array-read-t28
-    array-read-t31
-    array-read-t34
+    (λ c κs. search needs) (λ c κs. search needs) (λ c κs. search needs) (λ c κs. search needs) (λ c. search needs)
+    (λ c. search needs) (λ c. search needs) (λ c. search needs) (λ c. search needs) (λ c. search needs)
+    (λ c. search needs) (λ c. search needs)
     returns)

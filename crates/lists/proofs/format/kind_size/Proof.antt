@@ -1,3 +1,4 @@
+-- Each arm has the size of its row in `kinds`; a kind of no arm has no row.
 use borrow.Author.Tests.{ne-eqb}
 use Rattle.lists.specs.Format.{kindSize}
 use Rattle.lists.proofs.format.kind_size.Statement.{statement}
@@ -7,7 +8,8 @@ other-kind : tie.Need-returns-8
 unfolding kindSize
 other-kind c =
     let r = c .match .rest in
-    simp (ne-eqb _ _ (r .1), ne-eqb _ _ (r .0 .1), ne-eqb _ _ (r .0 .0 .1), ne-eqb _ _ (r .0 .0 .0 .1), ne-eqb _ _ (r .0 .0 .0 .0 .1), ne-eqb _ _ (r .0 .0 .0 .0 .0 .1), ne-eqb _ _ (r .0 .0 .0 .0 .0 .0 .1))
+    let q = r .0 .0 .0 in
+    simp (ne-eqb _ _ (r .1), ne-eqb _ _ (r .0 .1), ne-eqb _ _ (r .0 .0 .1), ne-eqb _ _ (q .1), ne-eqb _ _ (q .0 .1), ne-eqb _ _ (q .0 .0 .1), ne-eqb _ _ (q .0 .0 .0 .1))
 
 pub kind-size-spec : {M : Type 1} → statement M
 unfolding kindSize

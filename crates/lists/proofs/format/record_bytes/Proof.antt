@@ -1,19 +1,8 @@
+-- Each arm holds the bytes of what the record holds.
 use borrow.Author.Needs.{needs}
 use Rattle.lists.specs.Format.{kindOf, fieldsOf}
 use Rattle.lists.proofs.format.record_bytes.Statement.{statement}
 use Rattle.lists.proofs.format.record_bytes.Tie as tie
-
-enum-told : tie.Need-enum-told
-enum-told c = search needs
-
-enum-known-rec : tie.Need-enum-known-rec
-enum-known-rec c = search needs
-
-setting-bytes-requires : tie.Need-setting-bytes-requires
-setting-bytes-requires c κs = search needs
-
-enum-known-rec-2 : tie.Need-enum-known-rec-2
-enum-known-rec-2 c = search needs
 
 shape-bytes-requires : tie.Need-shape-bytes-requires
 shape-bytes-requires c κs =
@@ -34,10 +23,7 @@ pub record-bytes-spec : {M : Type 1} → statement M
 record-bytes-spec =
     tie.close
     (tie.spec
-    enum-told
-    enum-known-rec
-    setting-bytes-requires
-    enum-known-rec-2
+    (λ c. search needs) (λ c. search needs) (λ c κs. search needs) (λ c. search needs)
     shape-bytes-requires
     returns
     returns-2

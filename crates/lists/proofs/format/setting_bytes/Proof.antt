@@ -1,17 +1,9 @@
+-- Each arm holds the bytes of its setting.
 use borrow.Author.Needs.{needs}
 use Rattle.lists.specs.Format.{kindOf, fieldsOf}
 use Rattle.lists.proofs.format.setting_bytes.Statement.{statement}
 use Rattle.shapes.specs.declared.Record.the-variants.{Setting as setting}
 use Rattle.lists.proofs.format.setting_bytes.Tie as tie
-
-enum-known-setting : tie.Need-enum-known-setting
-enum-known-setting c = search needs
-
-four-words-requires : tie.Need-four-words-requires
-four-words-requires c κs = search needs
-
-enum-known-setting-2 : tie.Need-enum-known-setting-2
-enum-known-setting-2 c = search needs
 
 returns : tie.Need-returns
 unfolding kindOf fieldsOf
@@ -26,4 +18,4 @@ returns-2 c = rw (c .before .setting2 .given .1)
 pub setting-bytes-spec : {M : Type 1} → statement M
 setting-bytes-spec =
     tie.close
-    (tie.spec enum-known-setting four-words-requires enum-known-setting-2 returns returns-2)
+    (tie.spec (λ c. search needs) (λ c κs. search needs) (λ c. search needs) returns returns-2)

@@ -1,23 +1,12 @@
+-- Each arm holds the bytes of its shape, whose radius and width are one byte each as those of the whole are.
 use borrow.Author.Needs.{needs}
 use Rattle.lists.proofs.format.shape_bytes.Statement.{statement}
 use Rattle.lists.proofs.format.shape_bytes.Tie as tie
-
-enum-known-shape : tie.Need-enum-known-shape
-enum-known-shape c = search needs
-
-line-bytes-requires : tie.Need-line-bytes-requires
-line-bytes-requires c κs = search needs
-
-enum-known-shape-2 : tie.Need-enum-known-shape-2
-enum-known-shape-2 c = search needs
 
 disc-bytes-requires : tie.Need-disc-bytes-requires
 disc-bytes-requires c κs =
     let pre = c .before .before .before .pre in
     rw (c .before .shape2 .given .1) at (pre)
-
-enum-known-shape-3 : tie.Need-enum-known-shape-3
-enum-known-shape-3 c = search needs
 
 ring-bytes-requires : tie.Need-ring-bytes-requires
 ring-bytes-requires c κs =
@@ -41,11 +30,9 @@ pub shape-bytes-spec : {M : Type 1} → statement M
 shape-bytes-spec =
     tie.close
     (tie.spec
-    enum-known-shape
-    line-bytes-requires
-    enum-known-shape-2
+    (λ c. search needs) (λ c κs. search needs) (λ c. search needs)
     disc-bytes-requires
-    enum-known-shape-3
+    (λ c. search needs)
     ring-bytes-requires
     returns
     returns-2

@@ -1,3 +1,4 @@
+-- No refusal means that the record stands whole, so that it can be decoded.
 use mathlib.Core.Path.{_∙_, sym}
 use native.Mathlib.Omega.{arith}
 use borrow.Author.Needs.{needs}
@@ -7,9 +8,6 @@ use Rattle.lists.specs.Read.{readingOf}
 use Rattle.lists.proofs.Refusals.{readable}
 use Rattle.lists.proofs.read.read_record.Statement.{statement}
 use Rattle.lists.proofs.read.read_record.Tie as tie
-
-read-refusal-requires : tie.Need-read-refusal-requires
-read-refusal-requires c κs = search needs
 
 returns : tie.Need-returns
 unfolding readingOf
@@ -27,4 +25,4 @@ returns-2 c =
     simp (← read-refusal .ensures, le-ltb _ _ (c .before .if1 .left), c .decode .ensures)
 
 pub read-record-spec : {M : Type 1} → statement M
-read-record-spec = tie.close (tie.spec read-refusal-requires returns decode-requires returns-2)
+read-record-spec = tie.close (tie.spec (λ c κs. search needs) returns decode-requires returns-2)

@@ -1,12 +1,20 @@
+-- The tests are made in the order in which `readRefusal` has them; `known` says that the first two were passed.
+use mathlib.Core.Path.{_≡_}
+use mathlib.Core.Bool.{cond}
+use mathlib.Core.List.{List, [], _∷_}
+use Prim.Native.Nat.{ℕ}
 use borrow.Author.Needs.{needs}
 use borrow.Author.Tests.{lt-ltb, le-ltb, eq-eqb, ne-eqb}
+use lib.Dec.{ltb, eqb}
+use lib.ListN.{length}
+use denote.Ref.{now}
+use Rattle.shapes.specs.Limits.{first, tried, recordRefusal}
+use Rattle.shapes.specs.declared.Basis.{Basis}
+use Rattle.lists.specs.Format.{sizeAt, recordAt}
 use Rattle.lists.specs.Read.{readRefusal}
 use Rattle.shapes.proofs.Limits.{tried-last}
 use Rattle.lists.proofs.read.read_refusal.Statement.{statement}
 use Rattle.lists.proofs.read.read_refusal.Tie as tie
-
-size-refusal-requires : tie.Need-size-refusal-requires
-size-refusal-requires c κs = search needs
 
 returns : tie.Need-returns
 unfolding readRefusal
@@ -15,59 +23,51 @@ returns c = simp (← c .before .size-refusal .ensures, lt-ltb _ _ (c .if1 .take
 returns-2 : tie.Need-returns-2
 unfolding readRefusal
 returns-2 c =
-    let size-refusal = c .before .before .size-refusal in
-    simp (← size-refusal .ensures, le-ltb _ _ (c .before .if1 .left), eq-eqb _ _ (c .if2 .taken))
+    let one = c .before in
+    simp (← one .before .size-refusal .ensures, le-ltb _ _ (one .if1 .left), eq-eqb _ _ (c .if2 .taken))
 
-shared-slice-read-kind-size : tie.Need-shared-slice-read-kind-size
-shared-slice-read-kind-size c = search needs
+module _ (c : tie.After-kind-size) where
+  abbrev start : tie.Start
+  start = let one = c .before .before .before in one .before .before .before
 
-kind-size-requires : tie.Need-kind-size-requires
-kind-size-requires c κs = search needs
+  abbrev list : List ℕ
+  list = now (start .args .list)
+
+  abbrev basis : Basis
+  basis = start .args .basis
+
+  known : readRefusal basis list ≡ cond (eqb (sizeAt list) 0) 4 (cond (ltb (length list) (sizeAt list)) 5 (first (tried (recordRefusal basis (recordAt list)) ∷ [])))
+  unfolding readRefusal
+  known =
+      let two = c .before .before in
+      let one = two .before in
+      simp (← one .before .size-refusal .ensures, le-ltb _ _ (one .if1 .left), ne-eqb _ _ (two .if2 .left))
 
 returns-3 : tie.Need-returns-3
-unfolding readRefusal
-returns-3 c =
-    let size-refusal = c .before .before .before .before .before .size-refusal in
-    let if1 = c .before .before .before .before .if1 in
-    let if2 = c .before .before .before .if2 in
-    simp (← size-refusal .ensures, ← c .before .kind-size .ensures, le-ltb _ _ (if1 .left), ne-eqb _ _ (if2 .left), eq-eqb _ _ (c .if3 .taken))
+returns-3 c = simp (known (c .before), ← c .before .kind-size .ensures, eq-eqb _ _ (c .if3 .taken))
 
 returns-4 : tie.Need-returns-4
-unfolding readRefusal
 returns-4 c =
-    let size-refusal = c .before .before .before .before .before .before .size-refusal in
-    let kind-size = c .before .before .kind-size in
-    let if1 = c .before .before .before .before .before .if1 in
-    let if2 = c .before .before .before .before .if2 in
-    simp (← size-refusal .ensures, ← kind-size .ensures, le-ltb _ _ (if1 .left), ne-eqb _ _ (if2 .left), ne-eqb _ _ (c .before .if3 .left), lt-ltb _ _ (c .if4 .taken))
-
-decode-requires : tie.Need-decode-requires
-decode-requires c κs = search needs
-
-record-refusal-requires : tie.Need-record-refusal-requires
-record-refusal-requires c κs = search needs
+    let three = c .before in
+    simp (known (three .before), ← three .before .kind-size .ensures, ne-eqb _ _ (three .if3 .left), lt-ltb _ _ (c .if4 .taken))
 
 returns-5 : tie.Need-returns-5
-unfolding readRefusal
 returns-5 c =
-    let size-refusal = c .before .before .before .before .before .before .before .before .size-refusal in
-    let kind-size = c .before .before .before .before .kind-size in
-    let if1 = c .before .before .before .before .before .before .before .if1 in
-    let if2 = c .before .before .before .before .before .before .if2 in
-    let if3 = c .before .before .before .if3 in
-    simp (← size-refusal .ensures, ← kind-size .ensures, le-ltb _ _ (if1 .left), ne-eqb _ _ (if2 .left), ne-eqb _ _ (if3 .left), le-ltb _ _ (c .before .before .if4 .left), ← c .before .decode .ensures, ← c .record-refusal .ensures, tried-last)
+    let four = c .before .before in
+    let three = four .before in
+    let size = three .before .kind-size in
+    let found = c .record-refusal in
+    simp (known (three .before), ← size .ensures, ne-eqb _ _ (three .if3 .left), le-ltb _ _ (four .if4 .left), ← c .before .decode .ensures, ← found .ensures, tried-last)
 
 pub read-refusal-spec : {M : Type 1} → statement M
 read-refusal-spec =
     tie.close
     (tie.spec
-    size-refusal-requires
+    (λ c κs. search needs)
     returns
     returns-2
-    shared-slice-read-kind-size
-    kind-size-requires
+    (λ c. search needs) (λ c κs. search needs)
     returns-3
     returns-4
-    decode-requires
-    record-refusal-requires
+    (λ c κs. search needs) (λ c κs. search needs)
     returns-5)

@@ -1,3 +1,4 @@
+-- The settings are written as `start` has them.
 use mathlib.Core.Path.{refl}
 use Rattle.lists.specs.Settings.{start}
 use Rattle.lists.proofs.settings.first_settings.Statement.{statement}

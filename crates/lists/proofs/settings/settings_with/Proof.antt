@@ -1,13 +1,8 @@
+-- A setting changes its own field and keeps the other.
 use Rattle.lists.specs.Settings.{inForce}
 use borrow.Author.Needs.{needs}
 use Rattle.lists.proofs.settings.settings_with.Statement.{statement}
 use Rattle.lists.proofs.settings.settings_with.Tie as tie
-
-enum-known-setting : tie.Need-enum-known-setting
-enum-known-setting c = search needs
-
-enum-known-setting-2 : tie.Need-enum-known-setting-2
-enum-known-setting-2 c = search needs
 
 returns : tie.Need-returns
 unfolding inForce
@@ -18,4 +13,4 @@ unfolding inForce
 returns-2 c = rw (c .before .setting2 .given .1)
 
 pub settings-with-spec : {M : Type 1} → statement M
-settings-with-spec = tie.close (tie.spec enum-known-setting enum-known-setting-2 returns returns-2)
+settings-with-spec = tie.close (tie.spec (λ c. search needs) (λ c. search needs) returns returns-2)

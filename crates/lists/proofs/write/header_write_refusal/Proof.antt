@@ -1,3 +1,4 @@
+-- The two tests in the order in which `headerWriteRefusal` has them; a header is far below 65,536 bytes.
 use Prim.Native.Nat.{min}
 use native.Mathlib.Omega.{arith}
 use borrow.Author.Needs.{needs}
@@ -6,9 +7,6 @@ use Rattle.lists.specs.Format.{listMost, headerSize}
 use Rattle.lists.specs.Write.{headerWriteRefusal}
 use Rattle.lists.proofs.write.header_write_refusal.Statement.{statement}
 use Rattle.lists.proofs.write.header_write_refusal.Tie as tie
-
-size-refusal-requires : tie.Need-size-refusal-requires
-size-refusal-requires c κs = search needs
 
 returns : tie.Need-returns
 unfolding headerWriteRefusal
@@ -29,4 +27,4 @@ returns-3 c =
     simp (← size-refusal .ensures, le-ltb _ _ (c .before .if1 .left), le-ltb (min (args .n) listMost) headerSize (omega arith))
 
 pub header-write-refusal-spec : {M : Type 1} → statement M
-header-write-refusal-spec = tie.close (tie.spec size-refusal-requires returns returns-2 returns-3)
+header-write-refusal-spec = tie.close (tie.spec (λ c κs. search needs) returns returns-2 returns-3)

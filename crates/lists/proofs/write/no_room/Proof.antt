@@ -1,3 +1,4 @@
+-- Past the first tests no more than 65,536 bytes are asked for, and there all bytes of the list serve.
 use mathlib.Core.Logic.{_⊎_, inl, inr}
 use mathlib.Core.Path.{_≡_}
 use Prim.Native.Nat.{ℕ, min, _+_, _≤_, _<_}
@@ -27,16 +28,10 @@ returns-2 c =
     let a = c .before .before .args in
     simp (le-ltb _ _ (c .before .if1 .left), lt-ltb (min (a .n) listMost) (a .place + a .size) (omega arith))
 
-add-if3 : tie.Need-add-if3
-add-if3 c = search needs
-
 returns-3 : tie.Need-returns-3
 returns-3 c =
     let a = c .before .before .before .args in
     simp (le-ltb _ _ (c .before .before .if1 .left), lt-ltb (min (a .n) listMost) (a .place + a .size) (omega arith))
-
-add-result : tie.Need-add-result
-add-result c = search needs
 
 returns-4 : tie.Need-returns-4
 returns-4 c =
@@ -44,4 +39,4 @@ returns-4 c =
     simp (le-ltb _ _ (c .before .before .if1 .left)) (all-serve (a .n) (a .place + a .size) (c .if3 .left))
 
 pub no-room-spec : {M : Type 1} → statement M
-no-room-spec = tie.close (tie.spec returns returns-2 add-if3 returns-3 add-result returns-4)
+no-room-spec = tie.close (tie.spec returns returns-2 (λ c. search needs) returns-3 (λ c. search needs) returns-4)

@@ -1,3 +1,4 @@
+-- Invariant: the first i bytes are pasted, and the list is as long as it was.
 use mathlib.Core.Path.{_≡_, refl}
 use Prim.Native.Nat.{_≤_, _-_, _<_}
 use native.Mathlib.Numerals.{add-one}
@@ -18,9 +19,6 @@ loop-holds : tie.Need-loop-holds Inv-loop μ-loop
 loop-holds c =
     let a = c .args in
     (omega arith, refl, paste-zero (a .list .now) (a .place) (a .t3))
-
-array-read-list : tie.Need-array-read-list Inv-loop μ-loop
-array-read-list c = search needs
 
 add-list : tie.Need-add-list Inv-loop μ-loop
 add-list c = omega arith
@@ -58,7 +56,7 @@ put-spec =
     Inv-loop
     μ-loop
     loop-holds
-    array-read-list
+    (λ c. search needs)
     add-list
     slice-write-list
     add-i

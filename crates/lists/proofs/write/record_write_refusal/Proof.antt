@@ -1,68 +1,66 @@
-use mathlib.Core.Path.{_∙_, sym}
+-- The tests are made in the order in which `recordWriteRefusal` has them; `lawful` says that the first two were passed.
+use mathlib.Core.Path.{_≡_, _∙_, sym}
+use mathlib.Core.Bool.{cond, _||_}
 use native.Mathlib.Omega.{arith}
 use borrow.Author.Needs.{needs}
 use borrow.Author.Tests.{lt-ltb, le-ltb}
-use Rattle.lists.specs.Write.{recordWriteRefusal}
+use lib.ListN.{length}
+use lib.Dec.{ltb}
+use Prim.Native.Nat.{_+_}
+use Rattle.lists.specs.Format.{headerSize, recordBytes}
+use Rattle.lists.specs.Write.{tooFew, recordWriteRefusal}
 use Rattle.lists.proofs.Bytes.{record-most}
 use Rattle.lists.proofs.Refusals.{one-byte}
 use Rattle.lists.proofs.write.record_write_refusal.Statement.{statement}
 use Rattle.lists.proofs.write.record_write_refusal.Tie as tie
 
-size-refusal-requires : tie.Need-size-refusal-requires
-size-refusal-requires c κs = search needs
-
 returns : tie.Need-returns
 unfolding recordWriteRefusal
 returns c = simp (← c .before .size-refusal .ensures, lt-ltb _ _ (c .if1 .taken))
 
-record-refusal-requires : tie.Need-record-refusal-requires
-record-refusal-requires c κs = search needs
-
 returns-2 : tie.Need-returns-2
 unfolding recordWriteRefusal
 returns-2 c =
-    let size-refusal = c .before .before .before .size-refusal in
-    simp (← size-refusal .ensures, le-ltb _ _ (c .before .before .if1 .left), ← c .before .record-refusal .ensures, lt-ltb _ _ (c .if2 .taken))
+    let one = c .before .before in
+    simp (← one .before .size-refusal .ensures, le-ltb _ _ (one .if1 .left), ← c .before .record-refusal .ensures, lt-ltb _ _ (c .if2 .taken))
+
+module _ (c : tie.Else2) where
+  abbrev start : tie.Start
+  start = c .before .before .before .before
+
+  lawful : recordWriteRefusal (start .args .n) (start .args .place) (start .args .basis) (start .args .rec)
+      ≡ cond (ltb (start .args .place) headerSize || tooFew (start .args .n) (start .args .place + length (recordBytes (start .args .rec)))) 22 0
+  unfolding recordWriteRefusal
+  lawful =
+      let one = c .before .before in
+      simp (← one .before .size-refusal .ensures, le-ltb _ _ (one .if1 .left), ← c .before .record-refusal .ensures, le-ltb _ _ (c .if2 .left))
 
 record-size-requires : tie.Need-record-size-requires
-record-size-requires c κs =
-    let a = c .before .before .before .before .args in
-    one-byte (a .basis) (a .rec) (sym (c .before .record-refusal .ensures) ∙ omega arith)
+record-size-requires c κs = one-byte _ _ (sym (c .before .record-refusal .ensures) ∙ omega arith)
 
 no-room-requires : tie.Need-no-room-requires
 no-room-requires c κs =
-    let args = c .before .before .before .before .before .args in
-    let most = record-most (args .rec) in omega (arith, c .record-size .ensures)
+    let most = record-most (start (c .before) .args .rec) in omega (arith, c .record-size .ensures)
 
 returns-3 : tie.Need-returns-3
-unfolding recordWriteRefusal
 returns-3 c =
-    let record-size = c .before .before .record-size in
-    let size-refusal = c .before .before .before .before .before .before .size-refusal in
-    let if1 = c .before .before .before .before .before .if1 in
-    let record-refusal = c .before .before .before .before .record-refusal in
-    let if2 = c .before .before .before .if2 in
-    let full = rw (record-size .ensures) at (c .before .no-room .ensures) in
-    simp (← size-refusal .ensures, le-ltb _ _ (if1 .left), ← record-refusal .ensures, le-ltb _ _ (if2 .left), ← full, c .if3 .taken)
+    let size = c .before .before in
+    let full = rw (size .record-size .ensures) at (c .before .no-room .ensures) in
+    simp (lawful (size .before), ← full, c .if3 .taken)
 
 returns-4 : tie.Need-returns-4
-unfolding recordWriteRefusal
 returns-4 c =
-    let record-size = c .before .before .record-size in
-    let size-refusal = c .before .before .before .before .before .before .size-refusal in
-    let if1 = c .before .before .before .before .before .if1 in
-    let record-refusal = c .before .before .before .before .record-refusal in
-    let if2 = c .before .before .before .if2 in
-    let full = rw (record-size .ensures) at (c .before .no-room .ensures) in
-    simp (← size-refusal .ensures, le-ltb _ _ (if1 .left), ← record-refusal .ensures, le-ltb _ _ (if2 .left), ← full, c .if3 .left)
+    let size = c .before .before in
+    let full = rw (size .record-size .ensures) at (c .before .no-room .ensures) in
+    simp (lawful (size .before), ← full, c .if3 .left)
 
 pub record-write-refusal-spec : {M : Type 1} → statement M
 record-write-refusal-spec =
     tie.close
     (tie.spec
-    size-refusal-requires
+    (λ c κs. search needs)
     returns
-    record-refusal-requires
+    (λ c κs. search needs)
     returns-2
     record-size-requires
     no-room-requires

@@ -1,3 +1,4 @@
+-- The answer is written as it is promised.
 use mathlib.Core.Path.{refl}
 use Rattle.lists.proofs.write.refused.Statement.{statement}
 use Rattle.lists.proofs.write.refused.Tie as tie

@@ -1,18 +1,13 @@
+-- The two tests of `afterLevel`, one after the other.
 use borrow.Author.Needs.{needs}
 use borrow.Author.Tests.{eq-eqb, ne-eqb}
 use Rattle.print.specs.Text.{afterLevel}
 use Rattle.print.proofs.text.after_level.Statement.{statement}
 use Rattle.print.proofs.text.after_level.Tie as tie
 
-add-if1 : tie.Need-add-if1
-add-if1 c = search needs
-
 returns : tie.Need-returns
 unfolding afterLevel
 returns c = simp (eq-eqb _ _ (c .if1 .taken))
-
-add-if2 : tie.Need-add-if2
-add-if2 c = search needs
 
 returns-2 : tie.Need-returns-2
 unfolding afterLevel
@@ -23,4 +18,4 @@ unfolding afterLevel
 returns-3 c = simp (ne-eqb _ _ (c .before .if1 .left), ne-eqb _ _ (c .if2 .left))
 
 pub after-level-spec : {M : Type 1} → statement M
-after-level-spec = tie.close (tie.spec add-if1 returns add-if2 returns-2 returns-3)
+after-level-spec = tie.close (tie.spec (λ c. search needs) returns (λ c. search needs) returns-2 returns-3)

@@ -1,15 +1,10 @@
+-- The test of `nextColumn`.
 use native.Mathlib.Omega.{arith}
 use borrow.Author.Needs.{needs}
 use borrow.Author.Tests.{eq-eqb, ne-eqb}
 use Rattle.print.specs.Text.{nextColumn}
 use Rattle.print.proofs.text.next_column.Statement.{statement}
 use Rattle.print.proofs.text.next_column.Tie as tie
-
-add-if1 : tie.Need-add-if1
-add-if1 c = search needs
-
-add-result : tie.Need-add-result
-add-result c = search needs
 
 returns : tie.Need-returns
 unfolding nextColumn
@@ -20,4 +15,4 @@ unfolding nextColumn
 returns-2 c = (simp (ne-eqb _ _ (c .if1 .left)), omega arith)
 
 pub next-column-spec : {M : Type 1} → statement M
-next-column-spec = tie.close (tie.spec add-if1 add-result returns returns-2)
+next-column-spec = tie.close (tie.spec (λ c. search needs) (λ c. search needs) returns returns-2)

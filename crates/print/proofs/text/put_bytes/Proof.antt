@@ -1,3 +1,4 @@
+-- Invariant: the first i bytes stand behind what was there, and the buffer is as long as it was.
 use mathlib.Core.Path.{_≡_, refl, sym, ap, _∙_}
 use mathlib.Core.List.{List, [], _∷_, _++_, append-nil}
 use Prim.Native.Nat.{ℕ, _+_, _-_, _≤_}
@@ -22,35 +23,18 @@ loop-holds c =
     let a = c .args in
     (omega arith, refl, ap (λ (k : ℕ). take k (a .out .now)) (add-zero (a .at)) ∙ sym (append-nil (take (a .at) (a .out .now))))
 
-shared-slice-read-out : tie.Need-shared-slice-read-out Inv-loop μ-loop
-shared-slice-read-out c = search needs
-
-add-out : tie.Need-add-out Inv-loop μ-loop
-add-out c = search needs
-
-slice-write-out : tie.Need-slice-write-out Inv-loop μ-loop
-slice-write-out c = search needs
-
-add-i : tie.Need-add-i Inv-loop μ-loop
-add-i c = search needs
-
-loop-less : tie.Need-loop-less Inv-loop μ-loop
-loop-less c = search needs
-
 loop-again : tie.Need-loop-again Inv-loop μ-loop
 loop-again c =
     let a = c .before .before .before .args in
     let l = c .before .before .loop in
-    let more : take (l .i + 1) (a .bytes .now) ≡ take (l .i) (a .bytes .now) ++ getD (a .bytes .now) (l .i) 0 ∷ [] = rw add-one (take-suc (a .bytes .now) (l .i) 0 (omega arith)) in
-    let stored = one-behind (l .out) (take (a .at) (a .out .now)) (take (l .i) (a .bytes .now)) (a .at + l .i) (getD (a .bytes .now) (l .i) 0) (omega arith) (l .inv .2) in
+    let bytes = a .bytes .now in
+    let front = take (a .at) (a .out .now) in
+    let byte = getD bytes (l .i) 0 in
+    let more : take (l .i + 1) bytes ≡ take (l .i) bytes ++ byte ∷ [] = rw add-one (take-suc bytes (l .i) 0 (omega arith)) in
+    let stored = one-behind (l .out) front (take (l .i) bytes) (a .at + l .i) byte (omega arith) (l .inv .2) in
     let place : a .at + (l .i + 1) ≡ a .at + l .i + 1 = omega arith in
-    (omega arith, simp length-set (l .inv .1), ap (λ (k : ℕ). take k (set (l .out) (a .at + l .i) (getD (a .bytes .now) (l .i) 0))) place ∙ stored ∙ ap (λ (s : List ℕ). take (a .at) (a .out .now) ++ s) (sym more))
-
-add-result : tie.Need-add-result Inv-loop μ-loop
-add-result c = search needs
-
-same-length : tie.Need-same-length Inv-loop μ-loop
-same-length c = search needs
+    let text = ap (λ (k : ℕ). take k (set (l .out) (a .at + l .i) byte)) place ∙ stored ∙ ap (λ (s : List ℕ). front ++ s) (sym more) in
+    (omega arith, simp length-set (l .inv .1), text)
 
 returns : tie.Need-returns Inv-loop μ-loop
 returns c =
@@ -65,12 +49,7 @@ put-bytes-spec =
     Inv-loop
     μ-loop
     loop-holds
-    shared-slice-read-out
-    add-out
-    slice-write-out
-    add-i
-    loop-less
+    (λ c. search needs) (λ c. search needs) (λ c. search needs) (λ c. search needs) (λ c. search needs)
     loop-again
-    add-result
-    same-length
+    (λ c. search needs) (λ c. search needs)
     returns)

@@ -1,3 +1,4 @@
+-- Each piece is put behind what was there before: the text is the pieces in their order.
 use native.Mathlib.Omega.{arith}
 use Rattle.print.specs.Text.{headText}
 use Rattle.print.proofs.Written.{behind}
@@ -5,50 +6,22 @@ use borrow.Author.Needs.{needs}
 use Rattle.print.proofs.text.put_head.Statement.{statement}
 use Rattle.print.proofs.text.put_head.Tie as tie
 
-slice-aggregate-put-bytes : tie.Need-slice-aggregate-put-bytes
-slice-aggregate-put-bytes c = search needs
-
-put-bytes-requires : tie.Need-put-bytes-requires
-put-bytes-requires c κs = search needs
-
-put-number-requires : tie.Need-put-number-requires
-put-number-requires c κs = search needs
-
-put-number-requires-2 : tie.Need-put-number-requires-2
-put-number-requires-2 c κs = search needs
-
-put-number-requires-3 : tie.Need-put-number-requires-3
-put-number-requires-3 c κs = search needs
-
-slice-aggregate-put-bytes-2 : tie.Need-slice-aggregate-put-bytes-2
-slice-aggregate-put-bytes-2 c = search needs
-
-put-bytes-requires-2 : tie.Need-put-bytes-requires-2
-put-bytes-requires-2 c κs = search needs
-
-same-length : tie.Need-same-length
-same-length c = search needs
-
 returns : tie.Need-returns
 unfolding headText
-returns c = (
-  behind _ (c .before .before .put-bytes2 .ensures .0)
-      (behind _ (c .before .before .before .before .before .before .before .put-number3 .ensures .0)
-      (behind _ (c .before .before .before .before .before .before .before .before .before .before .before .put-number2 .ensures .0)
-      (behind _ (c .before .before .before .before .before .before .before .before .before .before .before .before .before .before .before .put-number .ensures .0) (c .before .before .before .before .before .before .before .before .before .before .before .before .before .before .before .before .before .before .before .put-bytes .ensures .0)))),
-  omega arith,
-)
+returns c =
+    let last = c .before .before in
+    let cast = last .before .before in
+    let three = cast .before .before .before in
+    let two = three .before .before .before .before in
+    let one = two .before .before .before .before in
+    let first = one .before .before .before .before in
+    let numbers = behind _ (two .put-number2 .ensures .0) (behind _ (one .put-number .ensures .0) (first .put-bytes .ensures .0)) in
+    (behind _ (last .put-bytes2 .ensures .0) (behind _ (three .put-number3 .ensures .0) numbers), omega arith)
 
 pub put-head-spec : {M : Type 1} → statement M
 put-head-spec =
     tie.close
     (tie.spec
-    slice-aggregate-put-bytes
-    put-bytes-requires
-    put-number-requires
-    put-number-requires-2
-    put-number-requires-3
-    slice-aggregate-put-bytes-2
-    put-bytes-requires-2
-    same-length
+    (λ c. search needs) (λ c κs. search needs) (λ c κs. search needs) (λ c κs. search needs) (λ c κs. search needs)
+    (λ c. search needs) (λ c κs. search needs) (λ c. search needs)
     returns)

@@ -1,3 +1,4 @@
+-- Invariant: what is put, with the text of the levels that are left, is the whole text. Four bytes are enough for a level.
 use mathlib.Core.Path.{_≡_, refl}
 use mathlib.Core.List.{_++_}
 use Prim.Native.Nat.{_+_, _*_, _-_, _≤_}
@@ -20,39 +21,16 @@ abbrev μ-loop : tie.MeasureT-loop
 loop-holds : tie.Need-loop-holds Inv-loop μ-loop
 loop-holds c = (omega arith, refl, omega arith, omega arith, refl)
 
-shared-slice-read-put-level : tie.Need-shared-slice-read-put-level Inv-loop μ-loop
-shared-slice-read-put-level c = search needs
-
-after-level-requires : tie.Need-after-level-requires Inv-loop μ-loop
-after-level-requires c κs = omega arith
-
-put-level-requires : tie.Need-put-level-requires Inv-loop μ-loop
-put-level-requires c κs = omega arith
-
-next-column-requires : tie.Need-next-column-requires Inv-loop μ-loop
-next-column-requires c κs = omega arith
-
-add-i : tie.Need-add-i Inv-loop μ-loop
-add-i c = search needs
-
-loop-less : tie.Need-loop-less Inv-loop μ-loop
-loop-less c = search needs
-
 loop-again : tie.Need-loop-again Inv-loop μ-loop
 loop-again c =
-    let a = c .before .before .before .before .before .before .before .before .before .before .before .args in
-    let l = c .before .before .before .before .before .before .before .before .loop in
-    let put = c .before .before .before .put-level in (
-      omega arith,
-      search needs,
-      omega arith,
-      omega arith,
-      level-step (a .w) (l .x) (l .i) _ (c .next-column .result) (a .levels .now) (take (l .next) (l .out)) _ _ (omega arith) (l .inv .4)
-          (put .ensures .0) (c .before .before .before .before .after-level .ensures) (c .next-column .ensures .0),
-    )
-
-same-length : tie.Need-same-length Inv-loop μ-loop
-same-length c = search needs
+    let put = c .before .before .before in
+    let level = put .before in
+    let turn = level .before .before .before .before in
+    let a = turn .before .before .before .args in
+    let l = turn .loop in
+    let text = level-step (a .w) (l .x) (l .i) _ (c .next-column .result) (a .levels .now) (take (l .next) (l .out)) _ _ (omega arith) (l .inv .4)
+    (put .put-level .ensures .0) (level .after-level .ensures) (c .next-column .ensures .0) in
+    (omega arith, search needs, omega arith, omega arith, text)
 
 returns : tie.Need-returns Inv-loop μ-loop
 returns c =
@@ -67,12 +45,9 @@ put-levels-spec =
     Inv-loop
     μ-loop
     loop-holds
-    shared-slice-read-put-level
-    after-level-requires
-    put-level-requires
-    next-column-requires
-    add-i
-    loop-less
+    (λ c. search needs)
+    (λ c κs. omega arith) (λ c κs. omega arith) (λ c κs. omega arith)
+    (λ c. search needs) (λ c. search needs)
     loop-again
-    same-length
+    (λ c. search needs)
     returns)

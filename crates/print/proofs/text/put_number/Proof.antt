@@ -1,3 +1,4 @@
+-- The digits, and one byte behind them.
 use native.Mathlib.Omega.{arith}
 use lib.ListN.{take}
 use Rattle.print.specs.Text.{digits}
@@ -5,18 +6,6 @@ use Rattle.print.proofs.Written.{one-behind}
 use borrow.Author.Needs.{needs}
 use Rattle.print.proofs.text.put_number.Statement.{statement}
 use Rattle.print.proofs.text.put_number.Tie as tie
-
-put-digits-requires : tie.Need-put-digits-requires
-put-digits-requires c κs = search needs
-
-slice-write-out : tie.Need-slice-write-out
-slice-write-out c = search needs
-
-add-result : tie.Need-add-result
-add-result c = search needs
-
-same-length : tie.Need-same-length
-same-length c = search needs
 
 returns : tie.Need-returns
 returns c =
@@ -26,4 +15,4 @@ returns c =
 
 pub put-number-spec : {M : Type 1} → statement M
 put-number-spec =
-    tie.close (tie.spec put-digits-requires slice-write-out add-result same-length returns)
+    tie.close (tie.spec (λ c κs. search needs) (λ c. search needs) (λ c. search needs) (λ c. search needs) returns)

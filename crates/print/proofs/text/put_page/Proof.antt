@@ -1,9 +1,10 @@
-use mathlib.Core.Path.{sym, ap, ap₂, _∙_}
+-- The head, and behind it the levels of the first W·H bytes of the page, or of all where it has fewer.
+use mathlib.Core.Path.{_≡_, sym, ap, ap₂, _∙_}
 use mathlib.Core.List.{List, _++_}
 use Prim.Native.Nat.{ℕ, _*_, _≤_}
 use native.Mathlib.Nat.{mul-le-mul}
 use native.Mathlib.Omega.{arith}
-use lib.ListN.{take}
+use lib.ListN.{length, take}
 use lib.Seq.{length-take-le}
 use Rattle.print.specs.Text.{levelsText, pageText}
 use Rattle.print.proofs.Written.{take-min}
@@ -11,53 +12,53 @@ use borrow.Author.Needs.{needs}
 use Rattle.print.proofs.text.put_page.Statement.{statement}
 use Rattle.print.proofs.text.put_page.Tie as tie
 
-put-head-requires : tie.Need-put-head-requires
-put-head-requires c κs = search needs
-
-mul-least : tie.Need-mul-least
-mul-least c =
-    let a = c .before .before .before .before .before .before .args in
+mul-lesser : tie.Need-mul-lesser
+mul-lesser c =
+    let head = c .before .before in
+    let a = head .before .before .before .before .args in
     let p : a .w ≤ 65535 = omega arith in
     let q : a .h ≤ 65535 = omega arith in
     omega (arith, mul-le-mul p q)
 
-least-requires : tie.Need-least-requires
-least-requires c κs = search needs
+-- how many levels are put, and the page that they are of
+module _ (c : tie.After-lesser) where
+  abbrev n : ℕ
+  n = c .lesser .result
+
+  abbrev start : tie.Start
+  start = let head = c .before .before .before in head .before .before .before .before
+
+  abbrev page : List ℕ
+  page = start .args .page .now
+
+  long : length (take n page) ≡ n
+  long = length-take-le n page (omega (arith, c .lesser .ensures))
 
 slice-aggregate-put-levels : tie.Need-slice-aggregate-put-levels
-slice-aggregate-put-levels c =
-    let a = c .before .before .before .before .before .before .before .before .before .args in
-    sym (length-take-le (c .before .before .least .result) (a .page .now) (omega arith))
+slice-aggregate-put-levels c = sym (long (c .before .before))
 
 put-levels-requires : tie.Need-put-levels-requires
-put-levels-requires c κs =
-    let a = c .before .before .before .before .before .before .before .before .before .args in
-    let long = length-take-le (c .before .before .least .result) (a .page .now) (omega arith) in
-    (omega (arith, long), omega (arith, long))
-
-same-length : tie.Need-same-length
-same-length c = search needs
+put-levels-requires c κs = let l = long (c .before .before) in (omega arith, omega arith)
 
 returns : tie.Need-returns
 unfolding pageText
 returns c =
-    let a = c .before .before .before .before .before .before .before .before .before .before .before .before .args in
-    let n = c .before .before .before .before .before .least .result in
-    let long = length-take-le n (a .page .now) (omega arith) in
-    let part = ap (λ (k : ℕ). take k (a .page .now)) (c .before .before .before .before .before .least .ensures) ∙ take-min (a .w * a .h) (a .page .now) in (
-      c .before .before .put-levels .ensures .0
-          ∙ ap₂ (λ (s l : List ℕ). s ++ levelsText (a .w) 0 l) (c .before .before .before .before .before .before .before .before .put-head .ensures .0) part,
-      omega (arith, long),
-    )
+    let call = c .before .before in
+    let some = call .before .before .before in
+    let head = some .before .before .before in
+    let a = start some .args in
+    let part = ap (λ (k : ℕ). take k (page some)) (some .lesser .ensures) ∙ take-min (a .w * a .h) (page some) in
+    let l = long some in
+    (call .put-levels .ensures .0 ∙ ap₂ (λ (s l : List ℕ). s ++ levelsText (a .w) 0 l) (head .put-head .ensures .0) part, omega arith)
 
 pub put-page-spec : {M : Type 1} → statement M
 put-page-spec =
     tie.close
     (tie.spec
-    put-head-requires
-    mul-least
-    least-requires
+    (λ c κs. search needs)
+    mul-lesser
+    (λ c κs. search needs)
     slice-aggregate-put-levels
     put-levels-requires
-    same-length
+    (λ c. search needs)
     returns)

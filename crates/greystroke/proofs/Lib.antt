@@ -1,2 +1,0 @@
--- One law beside the functions' own proofs.
-pub mod Widths
