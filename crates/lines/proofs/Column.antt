@@ -13,6 +13,8 @@ use Rattle.numbers.specs.inner.Offset.{origin}
 use Rattle.numbers.proofs.Order.{lt-or-le, eq-or-ne}
 use Rattle.shapes.specs.declared.Line.{Line}
 use Rattle.coverage.specs.Line.{rowOf, restOf}
+use Rattle.shapes.specs.declared.Shape.the-variants.{Line as line}
+use Rattle.coverage.specs.inner.OnPage.{shapeOn}
 use Rattle.coverage.specs.inner.Rows.{rowsOf, atRow}
 use Rattle.coverage.specs.inner.Frame.{Framed, rowOrigin}
 use Rattle.coverage.specs.declared.line.Frame.{Frame}
@@ -22,7 +24,7 @@ use Rattle.page.specs.inner.Paint.{Lawful, Drawn}
 use Rattle.page.specs.declared.View.{View}
 use Rattle.page.proofs.Clip.{Either}
 use Rattle.page.proofs.Drawn.{drawn-join, drawn-length}
-use Rattle.lines.specs.inner.Layout.{lineOn, alongFrom, alongEnd, strip, rowOn, byteAt, Laid, shown, spotted, counted, columned, columnCount, raised, lowered, acrossBy}
+use Rattle.lines.specs.inner.Layout.{alongFrom, alongEnd, strip, rowOn, byteAt, Laid, shown, spotted, counted, columned, columnCount, raised, lowered, acrossBy}
 use Rattle.lines.specs.declared.layout.Layout.{Layout}
 use Rattle.lines.proofs.Strip.{InColumn, inside, outside, in-column, line-inside}
 use Rattle.lines.proofs.RowPixel.{Pixel, only, spot-drawn}
@@ -87,24 +89,24 @@ module _ (c : View) (n : Line) (f : Frame) (lay : Layout) (size p : ℕ) (w : La
   G = rowOrigin + q
 
   -- a pixel of the column has what the closed rows say
-  value : (x y : ℕ) → cond (f .steep) y x ≡ p → x ≤ 4095 → y ≤ 4095 → lineOn n x y ≡ atRow rows (subℕ (rowOn f x y) G)
+  value : (x y : ℕ) → cond (f .steep) y x ≡ p → x ≤ 4095 → y ≤ 4095 → shapeOn (line n) x y ≡ atRow rows (subℕ (rowOn f x y) G)
   value x y e hx hy =
-      subst (λ (a : ℕ). lineOn n x y ≡ atRow (rowsOf (n .exact) (f .l) (f .s) (restOf (f .l) (f .s) (a + origin - f .x))) (subℕ (rowOn f x y) (rowOrigin + rowOf (f .l) (f .s) (a + origin - f .x)))) e
+      subst (λ (a : ℕ). shapeOn (line n) x y ≡ atRow (rowsOf (n .exact) (f .l) (f .s) (restOf (f .l) (f .s) (a + origin - f .x))) (subℕ (rowOn f x y) (rowOrigin + rowOf (f .l) (f .s) (a + origin - f .x)))) e
       (line-inside g x y hx hy (rw e first) (rw e last))
 
   abbrev column : ℕ → ℕ → ℕ
-  column = strip c f p (p + 1) (lineOn n)
+  column = strip c f p (p + 1) (shapeOn (line n))
 
-  at-row : (r : ℕ) (v : ℕ) → v ≡ atRow rows (subℕ r G) → (x y : ℕ) → Pixel c f lay p r x y → lineOn n x y ≡ v
+  at-row : (r : ℕ) (v : ℕ) → v ≡ atRow rows (subℕ r G) → (x y : ℕ) → Pixel c f lay p r x y → shapeOn (line n) x y ≡ v
   at-row r v e x y u =
       value x y (u .along-is) (omega (arith, u .x-less, w .w-most)) (omega (arith, u .y-less, w .h-most))
       ∙ ap (λ (k : ℕ). atRow rows (subℕ k G)) (u .row-is) ∙ sym e
 
   -- rows further from row q have nothing
   far : (x y : ℕ) → 0 ≡ atRow rows (subℕ (rowOn f x y) G) → column x y ≡ 0
-  far x y e = go (in-column c f p (lineOn n) x y end)
+  far x y e = go (in-column c f p (shapeOn (line n)) x y end)
     where
-      go : InColumn c f p (lineOn n) x y → column x y ≡ 0
+      go : InColumn c f p (shapeOn (line n)) x y → column x y ≡ 0
       go (inside a hx hy s) = s ∙ value x y a (omega (arith, w .x-most, w .w-most)) (omega (arith, w .y-most, w .h-most)) ∙ sym e
       go (outside s) = s
 
@@ -125,5 +127,5 @@ module _ (c : View) (n : Line) (f : Frame) (lay : Layout) (size p : ℕ) (w : La
       from-up x y = cond (leb G (rowOn f x y)) (column x y) 0
 
       spot : (r v k : ℕ) (l : List ℕ) → c .h * c .w ≤ length l → k ≡ byteAt f lay p r → v ≡ atRow rows (subℕ r G)
-          → Drawn (c .w) (c .h) ink (only c f lay size p w d (g .high) from end (lineOn n) r) l (spotted (shown lay r) ink v (k - lay .origin) l) (counted (shown lay r) v)
-      spot r v k l room e is = spot-drawn c f lay size p w d (g .high) from end (lineOn n) ink r v k l room e (at-row r v is)
+          → Drawn (c .w) (c .h) ink (only c f lay size p w d (g .high) from end (shapeOn (line n)) r) l (spotted (shown lay r) ink v (k - lay .origin) l) (counted (shown lay r) v)
+      spot r v k l room e is = spot-drawn c f lay size p w d (g .high) from end (shapeOn (line n)) ink r v k l room e (at-row r v is)

@@ -10,15 +10,17 @@ use Rattle.numbers.proofs.Order.{lt-or-le}
 use Rattle.numbers.proofs.Coordinate.{InRange, in-range, pixel-in, pixel-offset}
 use Rattle.shapes.specs.declared.Line.{Line}
 use Rattle.coverage.specs.Line.{rowOf, restOf}
+use Rattle.shapes.specs.declared.Shape.the-variants.{Line as line}
+use Rattle.coverage.specs.inner.OnPage.{shapeOn}
 use Rattle.coverage.specs.inner.Rows.{rowsOf, atRow}
 use Rattle.coverage.specs.inner.Frame.{Framed, rowOrigin}
 use Rattle.coverage.specs.declared.line.Frame.{Frame}
 use Rattle.coverage.specs.declared.line.Rows.{Rows}
 use Rattle.coverage.proofs.Pixel.{drawn-left, drawn-right, drawn-inside}
-use Rattle.page.specs.inner.Paint.{clipped, inView, Lawful}
+use Rattle.page.specs.inner.Paint.{clipped, inView}
 use Rattle.page.specs.declared.View.{View}
 use Rattle.page.proofs.Clip.{Inside, Outside, in-or-out, left-of, right-of, above, below, clip-in, clip-out, clip-shrink, clip-columns, clip-rows, Join}
-use Rattle.lines.specs.inner.Layout.{lineOn, alongFrom, alongEnd, strip, rowOn}
+use Rattle.lines.specs.inner.Layout.{alongFrom, alongEnd, Columns, strip, rowOn}
 
 -- ---- strips of any coverage
 module _ (c : View) (f : Frame) (n : ℕ → ℕ → ℕ) where
@@ -34,13 +36,13 @@ module _ (c : View) (f : Frame) (n : ℕ → ℕ → ℕ) where
       go true = clip-rows (c .x0) p (c .x1) e q n h k
       go false = clip-columns p (c .y0) e (c .y1) q n h k
 
-  pub strip-none : (p : ℕ) (x y : ℕ) → strip c f p p n x y ≡ 0
+  pub strip-none : (p e : ℕ) → e ≤ p → (x y : ℕ) → strip c f p e n x y ≡ 0
   unfolding strip
-  strip-none p x y = go (f .steep)
+  strip-none p e h x y = go (f .steep)
     where
-      go : (t : Bool) → cond t (clipped (c .x0) p (c .x1) p n) (clipped p (c .y0) p (c .y1) n) x y ≡ 0
-      go true = ⊎-elim (λ h. clip-out (c .x0) p (c .x1) p n x y (above h)) (λ h. clip-out (c .x0) p (c .x1) p n x y (below h)) (lt-or-le y p)
-      go false = ⊎-elim (λ h. clip-out p (c .y0) p (c .y1) n x y (left-of h)) (λ h. clip-out p (c .y0) p (c .y1) n x y (right-of h)) (lt-or-le x p)
+      go : (t : Bool) → cond t (clipped (c .x0) p (c .x1) e n) (clipped p (c .y0) e (c .y1) n) x y ≡ 0
+      go true = clip-out (c .x0) p (c .x1) e n x y (⊎-elim (λ k. above k) (λ k. below (omega arith)) (lt-or-le y p))
+      go false = clip-out p (c .y0) e (c .y1) n x y (⊎-elim (λ k. left-of k) (λ k. right-of (omega arith)) (lt-or-le x p))
 
   -- the whole clip is the strip of the columns outside which the coverage is 0
   pub strip-whole : (p e : ℕ) → alongFrom c f ≤ p → e ≤ alongEnd c f
@@ -119,10 +121,10 @@ module _ {n : Line} {f : Frame} (g : Framed n f) (x y : ℕ) (hx : x ≤ 4095) (
       by false = pixel-offset y hy
 
   -- 0 left and right of its columns
-  pub line-left : a + origin < f .x → lineOn n x y ≡ 0
+  pub line-left : a + origin < f .x → shapeOn (line n) x y ≡ 0
   line-left h = sym (drawn-left g px py (rw along-offset h))
 
-  pub line-right : f .x + f .l ≤ a + origin → lineOn n x y ≡ 0
+  pub line-right : f .x + f .l ≤ a + origin → shapeOn (line n) x y ≡ 0
   line-right h = sym (drawn-right g px py (rw along-offset h))
 
   -- in its columns, what the closed rows have
@@ -133,46 +135,27 @@ module _ {n : Line} {f : Frame} (g : Framed n f) (x y : ℕ) (hx : x ≤ 4095) (
   rows = rowsOf (n .exact) (f .l) (f .s) (restOf (f .l) (f .s) i)
 
   pub line-inside : f .x ≤ a + origin → a + origin < f .x + f .l
-      → lineOn n x y
+      → shapeOn (line n) x y
       ≡ atRow rows (subℕ (rowOn f x y) (rowOrigin + rowOf (f .l) (f .s) i))
   line-inside h k = sym (rw (along-offset, across-offset) at (drawn-inside g px py (rw along-offset h) (rw along-offset k)))
 
 -- ---- a line lies in its own columns
 
--- an inside pixel left of the first common column, or from the last on, is off the line
-pub line-beyond : (c : View) (n : Line) (f : Frame) (size : ℕ) → Lawful c size → Framed n f → (from end : ℕ)
+-- a pixel of the clip that is left of the first common column, or from the last on, is off the line
+pub common-columns : (c : View) (f : Frame) → c .x1 ≤ 1024 → c .y1 ≤ 1024 → (from end : ℕ)
     → from ≡ max (alongFrom c f) (f .x - origin)
     → end ≡ min (alongEnd c f) (f .x + f .l - origin)
-    → (x y : ℕ)
-    → Inside (c .x0) (c .y0) (c .x1) (c .y1) x y
-    → (cond (f .steep) y x < from) ⊎ (end ≤ cond (f .steep) y x)
-    → lineOn n x y ≡ 0
-line-beyond c n f size w g from end ef ee x y i o = go o
+    → (n : Line) → Framed n f → Columns c n f from end
+common-columns c f wide tall from end ef ee n g =
+    record {
+      between = λ h. record { some = h; left = omega arith; first = omega arith; end = record { right = omega arith; last = omega arith } };
+      whole = strip-whole c f (shapeOn (line n)) from end (omega arith) (omega arith) none;
+    }
   where
-    hx : x ≤ 4095
-    hx = omega (arith, i .right, w .x-most, w .w-most)
+    sides : (t : Bool) {x y : ℕ} → Inside (c .x0) (c .y0) (c .x1) (c .y1) x y → (cond t (c .y0) (c .x0) ≤ cond t y x) × (cond t y x < cond t (c .y1) (c .x1))
+    sides true i = (i .top, i .bottom)
+    sides false i = (i .left, i .right)
 
-    hy : y ≤ 4095
-    hy = omega (arith, i .bottom, w .y-most, w .h-most)
-
-    low : alongFrom c f ≤ cond (f .steep) y x
-    low = by (f .steep)
-      where
-        by : (t : Bool) → cond t (c .y0) (c .x0) ≤ cond t y x
-        by true = i .top
-        by false = i .left
-
-    high : cond (f .steep) y x < alongEnd c f
-    high = by (f .steep)
-      where
-        by : (t : Bool) → cond t y x < cond t (c .y1) (c .x1)
-        by true = i .bottom
-        by false = i .right
-
-    go : (cond (f .steep) y x < from) ⊎ (end ≤ cond (f .steep) y x) → lineOn n x y ≡ 0
-    go (inl h) = line-left g x y hx hy (omega (arith, low))
-    go (inr h) = line-right g x y hx hy (omega (arith, high))
-
--- where no column is common, every column is beyond
-pub either-side : (from end a : ℕ) → end ≤ from → (a < from) ⊎ (end ≤ a)
-either-side from end a h = ⊎-elim (λ k. inl k) (λ k. inr (omega arith)) (lt-or-le a from)
+    none : (x y : ℕ) → Inside (c .x0) (c .y0) (c .x1) (c .y1) x y → (cond (f .steep) y x < from) ⊎ (end ≤ cond (f .steep) y x) → shapeOn (line n) x y ≡ 0
+    none x y i (inl h) = line-left g x y (omega (arith, i .right)) (omega (arith, i .bottom)) (omega (arith, sides (f .steep) i))
+    none x y i (inr h) = line-right g x y (omega (arith, i .right)) (omega (arith, i .bottom)) (omega (arith, sides (f .steep) i))

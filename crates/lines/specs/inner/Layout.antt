@@ -5,27 +5,17 @@ use mathlib.Core.Path.{_≡_}
 use mathlib.Core.List.{List}
 use Prim.Native.Nat.{ℕ, _+_, _*_, _-_, _^_, _≤_, _<_}
 use lib.Dec.{leb, ltb}
-use lib.IntN.{pos}
 use lib.ListN.{getD, set}
 use Rattle.numbers.specs.inner.Offset.{origin}
 use Rattle.shapes.specs.declared.Line.{Line}
 use Rattle.shapes.specs.declared.Shape.the-variants.{Line as line}
-use Rattle.coverage.specs.Line.{rowOf, restOf}
-use Rattle.coverage.specs.Coverage.{drawnN, drawnD}
+use Rattle.coverage.specs.inner.OnPage.{shapeOn}
 use Rattle.coverage.specs.inner.Frame.{rowOrigin, rowAt}
 use Rattle.coverage.specs.declared.line.Frame.{Frame}
 use Rattle.coverage.specs.declared.line.Rows.{Rows}
-use Rattle.page.specs.inner.Ink.{inkOf}
-use Rattle.page.specs.inner.Paint.{dot, touch, clipped}
+use Rattle.page.specs.inner.Paint.{dot, touch, clipped, inView}
 use Rattle.page.specs.declared.View.{View}
 use Rattle.lines.specs.declared.layout.Layout.{Layout}
-
--- the coverage of the page's pixels by a line, and the ink that it is drawn with
-abbrev pub lineOn : Line → ℕ → ℕ → ℕ
-lineOn n x y = drawnN (line n) (pos x) (pos y)
-
-abbrev pub lineInk : Line → ℕ → ℕ → ℕ → ℕ
-lineInk n v = inkOf v (drawnD (line n))
 
 -- the clip's range along a frame's columns, and across them
 abbrev pub alongFrom : View → Frame → ℕ
@@ -40,9 +30,26 @@ acrossFrom c f = cond (f .steep) (c .x0) (c .y0)
 abbrev pub acrossEnd : View → Frame → ℕ
 acrossEnd c f = cond (f .steep) (c .x1) (c .y1)
 
+-- the columns before e end with the clip's and with the line's
+pub record EndInside (c : View) (f : Frame) (e : ℕ) : Type 0 where
+  pub right : e ≤ alongEnd c f
+  pub last : e + origin ≤ f .x + f .l
+
+-- columns from p to e, at least one, that the clip and the line have
+pub record Between (c : View) (f : Frame) (p e : ℕ) : Type 0 where
+  pub some : p < e
+  pub left : alongFrom c f ≤ p
+  pub first : f .x ≤ p + origin
+  pub end : EndInside c f e
+
 -- a coverage under the clip, in the frame's columns p to e alone
 unfoldable pub strip : View → Frame → ℕ → ℕ → (ℕ → ℕ → ℕ) → ℕ → ℕ → ℕ
 strip c f p e n = cond (f .steep) (clipped (c .x0) p (c .x1) e n) (clipped p (c .y0) e (c .y1) n)
+
+-- columns from p to e outside of which a line has no coverage in the clip
+pub record Columns (c : View) (n : Line) (f : Frame) (p e : ℕ) : Type 0 where
+  pub between : p < e → Between c f p e
+  pub whole : (x y : ℕ) → strip c f p e (shapeOn (line n)) x y ≡ inView c (shapeOn (line n)) x y
 
 -- the frame's row of a pixel
 abbrev pub rowOn : Frame → ℕ → ℕ → ℕ
@@ -105,15 +112,3 @@ pub record Reachable (lay : Layout) (k g size : ℕ) : Type 0 where
   pub upper : shown lay (g + 1) ≡ true → (lay .origin ≤ raised lay k) × (raised lay k - lay .origin < size)
   pub middle : shown lay g ≡ true → (lay .origin ≤ k) × (k - lay .origin < size)
   pub lower : shown lay (g - 1) ≡ true → (lay .origin ≤ lowered lay k) × (lowered lay k - lay .origin < size)
-
--- the walk stands at column p: its byte, its row and its rest
-pub record At (f : Frame) (lay : Layout) (p k g r : ℕ) : Type 0 where
-  pub k-is : k ≡ byteAt f lay p g
-  pub g-is : g ≡ rowOrigin + rowOf (f .l) (f .s) (p + origin - f .x)
-  pub r-is : r ≡ restOf (f .l) (f .s) (p + origin - f .x)
-
--- from the rest r the next column is in the next row where r and 2s come to 2l
-pub record Advanced (lay : Layout) (l2 s2 k g r k′ g′ r′ : ℕ) : Type 0 where
-  pub k-is : k′ ≡ cond (leb l2 (r + s2)) (raised lay k) k + lay .along
-  pub g-is : g′ ≡ cond (leb l2 (r + s2)) (g + 1) g
-  pub r-is : r′ ≡ cond (leb l2 (r + s2)) (r + s2 - l2) (r + s2)

@@ -1,3 +1,4 @@
+-- A column has two rows or three, as the rest and 2s come to 2l or not: each case has its own function.
 use native.Mathlib.Omega.{arith}
 use Rattle.lines.proofs.Steps.{advances}
 use borrow.Author.Needs.{needs}
@@ -10,7 +11,7 @@ mul-if1 c = search needs
 add-if1 : tie.Need-add-if1
 add-if1 c =
     let fit = advances (c .before .before .before .before .pre .0) in
-    omega (arith, fit .0, fit .1, fit .2)
+    omega (arith, fit .long, fit .short, fit .rest)
 
 mul-if1-2 : tie.Need-mul-if1-2
 mul-if1-2 c = search needs
