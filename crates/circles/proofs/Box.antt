@@ -5,6 +5,8 @@ use mathlib.Core.List.{List}
 use Prim.Native.Nat.{ℕ, _+_, _-_, _≤_, _<_}
 use native.Mathlib.Nat.{le-trans}
 use native.Mathlib.Omega.{arith}
+use Rattle.numbers.specs.inner.Offset.{origin, offsetMost}
+use Rattle.shapes.specs.Limits.{radiusMost}
 use Rattle.page.specs.inner.Ink.{inkOf}
 use Rattle.page.specs.inner.Paint.{inView, Lawful, Drawn}
 use Rattle.page.specs.declared.View.{View}
@@ -28,7 +30,7 @@ heights-of R = record { falls = height-falls R; most = height-most R }
 pub held : (hs : List ℕ) (R : ℕ) → ((k : ℕ) → at hs k ≡ heightOf R k) → at hs ≡ heightOf R
 held hs R h = fun-ext h
 
-pub nested-of : (R r : ℕ) → r ≤ R → R ≤ 255 → Nested (heightOf R) (heightOf r) r
+pub nested-of : (R r : ℕ) → r ≤ R → R ≤ radiusMost → Nested (heightOf R) (heightOf r) r
 nested-of R r h k =
     record { outer = heights-wider k (heights-of R); inner = heights-of r; small = omega arith; within = λ j. height-rises r R j h }
 
@@ -54,17 +56,17 @@ module _ (view : View) (ring : Ring) (R : ℕ) {size : ℕ} (law : Lawful view s
         y-most = le-trans (clamped-high (view .y0) (view .y1) (ring .cy + R)) (law .y-most);
       }
 
-  boxed-near : R ≤ 255 → Reached (boxed view ring R) ring
+  boxed-near : R ≤ radiusMost → Reached (boxed view ring R) ring
   boxed-near h =
       record {
-        columns = λ x p q. near (ring .cx) (x + 4096) (between-clamped _ _ (ring .cx - R) (ring .cx + R) x (law .x-order) p q);
-        rows = λ y p q. near (ring .cy) (y + 4096) (between-clamped _ _ (ring .cy - R) (ring .cy + R) y (law .y-order) p q);
+        columns = λ x p q. near (ring .cx) (x + origin) (between-clamped _ _ (ring .cx - R) (ring .cx + R) x (law .x-order) p q);
+        rows = λ y p q. near (ring .cy) (y + origin) (between-clamped _ _ (ring .cy - R) (ring .cy + R) y (law .y-order) p q);
       }
     where
-      near : (c x : ℕ) → (c - R ≤ x) × (x < c + R) → apart c x ≤ 255
+      near : (c x : ℕ) → (c - R ≤ x) × (x < c + R) → apart c x ≤ radiusMost
       near c x b = omega (arith, apart-near c R x (b .0) (b .1))
 
-  pub boxed-ready : ring .cx ≤ 8191 → ring .hole ≤ R → R ≤ 255
+  pub boxed-ready : ring .cx ≤ offsetMost → ring .hole ≤ R → R ≤ radiusMost
       → Ready (boxed view ring R) size ring (heightOf R) (heightOf (ring .hole))
   boxed-ready c h k = record { lawful = boxed-lawful; near = boxed-near k; nested = nested-of R (ring .hole) h k; centre = c }
 
@@ -79,10 +81,10 @@ module _ (view : View) (ring : Ring) (R : ℕ) {size : ℕ} (law : Lawful view s
         none : (x y : ℕ) → Inside (view .x0) (view .y0) (view .x1) (view .y1) x y
             → Outside (boxed view ring R .x0) (boxed view ring R .y0) (boxed view ring R .x1) (boxed view ring R .y1) x y
             → betweenOn (heightOf R) Z ring x y ≡ 0
-        none x y i (left-of h) = between-far R Z _ _ (inl (apart-left (ring .cx) R (x + 4096) (before-clamped _ _ _ x (i .left) h)))
-        none x y i (right-of h) = between-far R Z _ _ (inl (apart-right (ring .cx) R (x + 4096) (from-clamped _ _ _ x (i .right) h)))
-        none x y i (above h) = between-far R Z _ _ (inr (apart-left (ring .cy) R (y + 4096) (before-clamped _ _ _ y (i .top) h)))
-        none x y i (below h) = between-far R Z _ _ (inr (apart-right (ring .cy) R (y + 4096) (from-clamped _ _ _ y (i .bottom) h)))
+        none x y i (left-of h) = between-far R Z _ _ (inl (apart-left (ring .cx) R (x + origin) (before-clamped _ _ _ x (i .left) h)))
+        none x y i (right-of h) = between-far R Z _ _ (inl (apart-right (ring .cx) R (x + origin) (from-clamped _ _ _ x (i .right) h)))
+        none x y i (above h) = between-far R Z _ _ (inr (apart-left (ring .cy) R (y + origin) (before-clamped _ _ _ y (i .top) h)))
+        none x y i (below h) = between-far R Z _ _ (inr (apart-right (ring .cy) R (y + origin) (from-clamped _ _ _ y (i .bottom) h)))
 
     pub boxed-drawn : {ink : ℕ → ℕ → ℕ} {l m : List ℕ} {t : ℕ}
         → Drawn (view .w) (view .h) ink (inView (boxed view ring R) (betweenOn (heightOf R) Z ring)) l m t

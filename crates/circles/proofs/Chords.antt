@@ -4,6 +4,7 @@ use mathlib.Core.Logic.{⊎-elim}
 use Prim.Native.Nat.{ℕ, _+_, _-_, _*_, _≤_, _<_, min, max}
 use native.Mathlib.Nat.{add-le-add}
 use native.Mathlib.Omega.{arith}
+use Rattle.shapes.specs.Limits.{radiusMost}
 use Rattle.numbers.proofs.Order.{lt-or-le}
 use Rattle.coverage.specs.Circle.{chord, chords}
 use Rattle.coverage.proofs.Chord.{chords-rise, chords-le}
@@ -63,7 +64,7 @@ reach-order : {Y : ℕ → ℕ} {b i o : ℕ} → Reach Y b i o → i ≤ o
 reach-order {Y} {b} {i} {o} r = ⊎-elim (λ h. absurd (omega (arith, r .whole o h, r .clear o (omega arith)))) (λ h. h) (lt-or-le o i)
 
 -- the row does not meet the inner circle
-pub measured-solid : (Y Z : ℕ → ℕ) (hole b i o : ℕ) → Nested Y Z hole → hole ≤ b → o ≤ 255 → Reach Y b i o
+pub measured-solid : (Y Z : ℕ → ℕ) (hole b i o : ℕ) → Nested Y Z hole → hole ≤ b → o ≤ radiusMost → Reach Y b i o
     → Measured Y Z b (record { hole = 0; inner = 0; whole = i; outer = o })
 unfolding between
 measured-solid Y Z hole b i o n far h r =
@@ -76,7 +77,7 @@ measured-solid Y Z hole b i o n far h r =
     }
 
 -- it does: the inner circle is nowhere wider than the outer one
-pub measured-hollow : (Y Z : ℕ → ℕ) (hole b i o j e : ℕ) → Nested Y Z hole → o ≤ 255 → Reach Y b i o → Reach Z b j e
+pub measured-hollow : (Y Z : ℕ → ℕ) (hole b i o j e : ℕ) → Nested Y Z hole → o ≤ radiusMost → Reach Y b i o → Reach Z b j e
     → Measured Y Z b (record { hole = j; inner = min o e; whole = max (min o e) i; outer = o })
 unfolding between
 measured-hollow Y Z hole b i o j e n h r s =

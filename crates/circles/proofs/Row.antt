@@ -5,6 +5,7 @@ use mathlib.Core.List.{List}
 use Prim.Native.Nat.{ℕ, _+_, _-_, _≤_, _<_}
 use native.Mathlib.Omega.{arith}
 use lib.ListN.{length}
+use Rattle.numbers.specs.inner.Offset.{origin}
 use Rattle.page.specs.inner.Paint.{clipped, Drawn, clamped}
 use Rattle.page.specs.declared.View.{View}
 use Rattle.page.proofs.Clip.{Inside, Outside, left-of, right-of, above, below, clip-ext, clip-shrink, clip-columns}
@@ -27,7 +28,7 @@ ready-after {view = view} {ring} {Y} {Z} d = subst (λ (k : ℕ). Ready view k r
 module _ {Y Z : ℕ → ℕ} {view : View} {size : ℕ} {ring : Ring} {row : Widths} (y : ℕ)
     (ready : Ready view size ring Y Z)
     (rows : (view .y0 ≤ y) × (y < view .y1))
-    (m : Measured Y Z (apart (ring .cy) (y + 4096)) row)
+    (m : Measured Y Z (apart (ring .cy) (y + origin)) row)
   where
     clip : view .x0 ≤ view .x1
     clip = ready .lawful .x-order
@@ -35,7 +36,7 @@ module _ {Y Z : ℕ → ℕ} {view : View} {size : ℕ} {ring : Ring} {row : Wid
     rises : (c d : ℕ) → c ≤ d → clamped (view .x0) (view .x1) c ≤ clamped (view .x0) (view .x1) d
     rises = clamped-rises (view .x0) (view .x1)
 
-    within : (c d x : ℕ) → clamped (view .x0) (view .x1) c ≤ x → x < clamped (view .x0) (view .x1) d → (c ≤ x + 4096) × (x + 4096 < d)
+    within : (c d x : ℕ) → clamped (view .x0) (view .x1) c ≤ x → x < clamped (view .x0) (view .x1) d → (c ≤ x + origin) × (x + origin < d)
     within c d x = between-clamped (view .x0) (view .x1) c d x clip
 
     -- the band of the offsets b to e; c to d are whole, within the outer circle and outside the inner one
@@ -50,7 +51,7 @@ module _ {Y Z : ℕ → ℕ} {view : View} {size : ℕ} {ring : Ring} {row : Wid
           whole =
               λ x p q.
               let i = within c d x p q in
-              m .whole-all _ (outside (x + 4096) (i .0) (i .1)) (apart-near (ring .cx) (row .whole) (x + 4096) (omega arith) (omega arith));
+              m .whole-all _ (outside (x + origin) (i .0) (i .1)) (apart-near (ring .cx) (row .whole) (x + origin) (omega arith) (omega arith));
         }
 
     -- of a row that does not meet the inner circle
@@ -72,13 +73,13 @@ module _ {Y Z : ℕ → ℕ} {view : View} {size : ℕ} {ring : Ring} {row : Wid
 
     -- nothing is covered beyond the outer circle, nor in the hole
     none-left : (x : ℕ) → view .x0 ≤ x → x < leftOf view ring (row .outer) → betweenOn Y Z ring x y ≡ 0
-    none-left x h k = m .outer-none _ (apart-left (ring .cx) (row .outer) (x + 4096) (before-clamped _ _ _ x h k))
+    none-left x h k = m .outer-none _ (apart-left (ring .cx) (row .outer) (x + origin) (before-clamped _ _ _ x h k))
 
     none-right : (x : ℕ) → x < view .x1 → rightOf view ring (row .outer) ≤ x → betweenOn Y Z ring x y ≡ 0
-    none-right x h k = m .outer-none _ (apart-right (ring .cx) (row .outer) (x + 4096) (from-clamped _ _ _ x h k))
+    none-right x h k = m .outer-none _ (apart-right (ring .cx) (row .outer) (x + origin) (from-clamped _ _ _ x h k))
 
     none-middle : (x : ℕ) → leftOf view ring (row .hole) ≤ x → x < rightOf view ring (row .hole) → betweenOn Y Z ring x y ≡ 0
-    none-middle x p q = let b = within _ _ x p q in m .hole-none _ (apart-near (ring .cx) (row .hole) (x + 4096) (b .0) (b .1))
+    none-middle x p q = let b = within _ _ x p q in m .hole-none _ (apart-near (ring .cx) (row .hole) (x + origin) (b .0) (b .1))
 
     pub solid-row : {ink : ℕ → ℕ → ℕ} {l m : List ℕ} {t : ℕ}
         → RingDrawn ink view ring Y Z (leftOf view ring (row .outer)) y (rightOf view ring (row .outer)) (y + 1) l m t

@@ -1,12 +1,16 @@
 // The coverage of a ring by the distances from its centre, and where a row of it changes.
+use coverage::circle::HEIGHTS;
 use coverage::circle::chord_of;
 use numbers::greater;
 use numbers::lesser;
 ghost use mathlib.Core.Path.{_≡_};
 ghost use Prim.Native.Nat.{ℕ, _+_, _-_, _*_, _≤_, _<_, min, max};
 ghost use lib.Dec.{leb};
+ghost use Rattle.shapes.specs.Limits.{radiusMost};
 ghost use Rattle.coverage.specs.Circle.{chords};
 ghost use Rattle.circles.specs.inner.Row.{at, between, Heights, Nested, Measured};
+
+const RADIUS_MOST: u64 = shapes::RADIUS_MOST as u64;
 
 // The distances at which a row changes: a hole, an edge, a whole part, an edge.
 pub struct Widths {
@@ -23,7 +27,7 @@ fn wide(height: u32) -> u64
 }
 
 // The height at distance k.
-fn height(hs: &[u32; 257], k: u64) -> u64
+fn height(hs: &[u32; HEIGHTS], k: u64) -> u64
     requires { ⌜ k ≤ 256 ⌝ }
     ensures { λ r. ⌜ r ≡ at (now (hs .entry)) k ⌝ }
 {
@@ -31,8 +35,8 @@ fn height(hs: &[u32; 257], k: u64) -> u64
 }
 
 // The coverage over 512 by a disc, at the distances a and b.
-fn covered(hs: &[u32; 257], a: u64, b: u64) -> u64
-    requires { ⌜ (a ≤ 255) × (b ≤ 255) ⌝ }
+fn covered(hs: &[u32; HEIGHTS], a: u64, b: u64) -> u64
+    requires { ⌜ (a ≤ radiusMost) × (b ≤ radiusMost) ⌝ }
     ensures { λ r. ⌜ (r ≡ chords (at (now (hs .entry))) a b) × (r ≤ 512) ⌝ }
 {
     let m = lesser(a, b);
@@ -41,8 +45,14 @@ fn covered(hs: &[u32; 257], a: u64, b: u64) -> u64
 }
 
 // The coverage over 512 between two circles, the inner of radius hole: a pixel past that needs no heights of it.
-pub fn covered_between(outer: &[u32; 257], inner: &[u32; 257], hole: u64, a: u64, b: u64) -> u64
-    requires { ⌜ Nested (at (now outer)) (at (now inner)) hole × (a ≤ 255) × (b ≤ 255) ⌝ }
+pub fn covered_between(
+    outer: &[u32; HEIGHTS],
+    inner: &[u32; HEIGHTS],
+    hole: u64,
+    a: u64,
+    b: u64,
+) -> u64
+    requires { ⌜ Nested (at (now outer)) (at (now inner)) hole × (a ≤ radiusMost) × (b ≤ radiusMost) ⌝ }
     ensures { λ r. ⌜ (r ≡ between (at (now (outer .entry))) (at (now (inner .entry))) a b) × (r ≤ 512) ⌝ }
 {
     let n = covered(outer, a, b);
@@ -54,16 +64,16 @@ pub fn covered_between(outer: &[u32; 257], inner: &[u32; 257], hole: u64, a: u64
 }
 
 // Whether the pixel at the distances a and b is whole: the lower of its two heights tells.
-fn is_whole(hs: &[u32; 257], a: u64, b: u64) -> bool
-    requires { ⌜ (a ≤ 255) × (b ≤ 255) ⌝ }
+fn is_whole(hs: &[u32; HEIGHTS], a: u64, b: u64) -> bool
+    requires { ⌜ (a ≤ radiusMost) × (b ≤ radiusMost) ⌝ }
     ensures { λ r. ⌜ r ≡ leb (256 * (max a b + 1)) (at (now (hs .entry)) (min a b + 1)) ⌝ }
 {
     256 * (greater(a, b) + 1) <= height(hs, lesser(a, b) + 1)
 }
 
 // Whether nothing of it is covered: the higher one tells.
-fn is_clear(hs: &[u32; 257], a: u64, b: u64) -> bool
-    requires { ⌜ (a ≤ 255) × (b ≤ 255) ⌝ }
+fn is_clear(hs: &[u32; HEIGHTS], a: u64, b: u64) -> bool
+    requires { ⌜ (a ≤ radiusMost) × (b ≤ radiusMost) ⌝ }
     ensures { λ r. ⌜ r ≡ leb (at (now (hs .entry)) (min a b)) (256 * max a b) ⌝ }
 {
     height(hs, lesser(a, b)) <= 256 * greater(a, b)
@@ -71,9 +81,9 @@ fn is_clear(hs: &[u32; 257], a: u64, b: u64) -> bool
 
 // How many pixels of the row at distance b, from the centre outwards, are whole: a guess, lowered until it passes the test.
 // Fewer would do: what is not known to be whole is blended.
-fn whole_width(hs: &[u32; 257], b: u64) -> u64
-    requires { ⌜ Heights (at (now hs)) 255 × (b ≤ 255) ⌝ }
-    ensures { λ r. ⌜ (r ≤ 255) × ((a : ℕ) → a < r → chords (at (now (hs .entry))) a b ≡ 512) ⌝ }
+fn whole_width(hs: &[u32; HEIGHTS], b: u64) -> u64
+    requires { ⌜ Heights (at (now hs)) radiusMost × (b ≤ radiusMost) ⌝ }
+    ensures { λ r. ⌜ (r ≤ radiusMost) × ((a : ℕ) → a < r → chords (at (now (hs .entry))) a b ≡ 512) ⌝ }
 {
     let mut i = height(hs, b + 1) / 256;
     while 0 < i {
@@ -86,12 +96,12 @@ fn whole_width(hs: &[u32; 257], b: u64) -> u64
 }
 
 // From which pixel on none is covered: a guess, raised until it passes the test. A later one would do.
-fn covered_width(hs: &[u32; 257], b: u64) -> u64
-    requires { ⌜ Heights (at (now hs)) 255 × (b ≤ 255) ⌝ }
-    ensures { λ r. ⌜ (r ≤ 255) × ((a : ℕ) → r ≤ a → chords (at (now (hs .entry))) a b ≡ 0) ⌝ }
+fn covered_width(hs: &[u32; HEIGHTS], b: u64) -> u64
+    requires { ⌜ Heights (at (now hs)) radiusMost × (b ≤ radiusMost) ⌝ }
+    ensures { λ r. ⌜ (r ≤ radiusMost) × ((a : ℕ) → r ≤ a → chords (at (now (hs .entry))) a b ≡ 0) ⌝ }
 {
     let mut i = (height(hs, b) + 255) / 256;
-    while i < 255 {
+    while i < RADIUS_MOST {
         if is_clear(hs, i, b) {
             return i;
         }
@@ -101,8 +111,8 @@ fn covered_width(hs: &[u32; 257], b: u64) -> u64
 }
 
 // Where the row at distance b changes.
-pub fn measure(outer: &[u32; 257], inner: &[u32; 257], hole: u64, b: u64) -> Widths
-    requires { ⌜ Nested (at (now outer)) (at (now inner)) hole × (b ≤ 255) ⌝ }
+pub fn measure(outer: &[u32; HEIGHTS], inner: &[u32; HEIGHTS], hole: u64, b: u64) -> Widths
+    requires { ⌜ Nested (at (now outer)) (at (now inner)) hole × (b ≤ radiusMost) ⌝ }
     ensures { λ row. ⌜ Measured (at (now (outer .entry))) (at (now (inner .entry))) b row ⌝ }
 {
     let whole = whole_width(outer, b);

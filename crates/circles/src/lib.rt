@@ -8,7 +8,8 @@ use rows::right_at;
 ghost use mathlib.Core.Path.{_≡_};
 ghost use Prim.Native.Nat.{_≤_};
 ghost use lib.ListN.{length};
-ghost use Rattle.shapes.specs.Limits.{shapeRefusal};
+ghost use Rattle.numbers.specs.inner.Offset.{offsetMost};
+ghost use Rattle.shapes.specs.Limits.{shapeRefusal, radiusMost};
 ghost use Rattle.shapes.specs.declared.Shape.the-variants.{Disc as asDisc, Ring as asRing};
 ghost use Rattle.coverage.specs.Circle.{heightOf};
 ghost use Rattle.coverage.specs.Coverage.{drawnD};
@@ -22,7 +23,7 @@ mod rows; // rows.rt: rows drawn in stretches
 
 // The part of the clip that the box of a ring of this radius meets.
 fn box_of(view: View, ring: Ring, radius: u64) -> View
-    requires { ⌜ (ring .cx ≤ 8191) × (ring .cy ≤ 8191) × (radius ≤ 255) ⌝ }
+    requires { ⌜ (ring .cx ≤ offsetMost) × (ring .cy ≤ offsetMost) × (radius ≤ radiusMost) ⌝ }
     ensures { λ r. ⌜ r ≡ boxed view ring radius ⌝ }
 {
     View {
@@ -37,7 +38,7 @@ fn box_of(view: View, ring: Ring, radius: u64) -> View
 
 // Draws what lies between the circle of this radius and the ring's hole.
 fn draw_between(page: &mut [u8], view: View, ring: Ring, radius: u64) -> u64
-    requires { ⌜ Lawful view (length (now page)) × (ring .cx ≤ 8191) × (ring .cy ≤ 8191) × (ring .hole ≤ radius) × (radius ≤ 255) ⌝ }
+    requires { ⌜ Lawful view (length (now page)) × (ring .cx ≤ offsetMost) × (ring .cy ≤ offsetMost) × (ring .hole ≤ radius) × (radius ≤ radiusMost) ⌝ }
     ensures { λ t. ⌜ RingDrawn (inkOf (ring .level) 512) view ring (heightOf radius) (heightOf (ring .hole))
         (view .x0) (view .y0) (view .x1) (view .y1) (now (page .entry)) (now (page .exit)) t ⌝ }
 {

@@ -1,6 +1,7 @@
 // The rows of a ring, each drawn in stretches: edges are blended pixel by pixel, what is whole is filled, a hole is left alone.
 use super::cover::covered_between;
 use super::cover::measure;
+use coverage::circle::HEIGHTS;
 use coverage::circle::apart_of;
 use numbers::ORIGIN;
 use numbers::less;
@@ -9,6 +10,8 @@ use page::clamp_offset;
 ghost use mathlib.Core.Path.{_≡_};
 ghost use Prim.Native.Nat.{ℕ, _+_, _-_, _≤_, _<_};
 ghost use lib.ListN.{length};
+ghost use Rattle.numbers.specs.inner.Offset.{origin, offsetMost};
+ghost use Rattle.shapes.specs.Limits.{radiusMost};
 ghost use Rattle.numbers.specs.Sum.{sumTo};
 ghost use Rattle.page.specs.inner.Ink.{inkOf};
 ghost use Rattle.page.specs.Page.{over};
@@ -32,7 +35,7 @@ pub fn left_at(view: View, ring: Ring, d: u64) -> usize
 }
 
 pub fn right_at(view: View, ring: Ring, d: u64) -> usize
-    requires { ⌜ (ring .cx ≤ 8191) × (d ≤ 255) ⌝ }
+    requires { ⌜ (ring .cx ≤ offsetMost) × (d ≤ radiusMost) ⌝ }
     ensures { λ r. ⌜ r ≡ rightOf view ring d ⌝ }
 {
     clamp_offset(view.x0, view.x1, ring.cx + d)
@@ -41,21 +44,21 @@ pub fn right_at(view: View, ring: Ring, d: u64) -> usize
 // Blends a stretch whose first pixel is in column x of the row at distance b; hands back how many pixels it touched.
 fn blend_edge(
     stretch: &mut [u8],
-    outer: &[u32; 257],
-    inner: &[u32; 257],
+    outer: &[u32; HEIGHTS],
+    inner: &[u32; HEIGHTS],
     hole: u64,
     cx: u64,
     x: usize,
     b: u64,
     level: u8,
 ) -> u64
-    requires { ⌜ Nested (at (now outer)) (at (now inner)) hole × (b ≤ 255) × (x + length (now stretch) ≤ 1024) ⌝ }
-    requires { ⌜ ((i : ℕ) → i < length (now stretch) → apart cx (x + i + 4096) ≤ 255) ⌝ }
+    requires { ⌜ Nested (at (now outer)) (at (now inner)) hole × (b ≤ radiusMost) × (x + length (now stretch) ≤ 1024) ⌝ }
+    requires { ⌜ ((i : ℕ) → i < length (now stretch) → apart cx (x + i + origin) ≤ radiusMost) ⌝ }
     ensures { λ r. ⌜ now (stretch .exit) ≡ over
-        (λ i. dot (inkOf level 512) (between (at (now (outer .entry))) (at (now (inner .entry))) (apart cx (x + i + 4096)) b))
+        (λ i. dot (inkOf level 512) (between (at (now (outer .entry))) (at (now (inner .entry))) (apart cx (x + i + origin)) b))
         (now (stretch .entry)) ⌝ }
     ensures { λ r. ⌜ r ≡ sumTo (length (now (stretch .entry)))
-        (λ i. touch (between (at (now (outer .entry))) (at (now (inner .entry))) (apart cx (x + i + 4096)) b)) ⌝ }
+        (λ i. touch (between (at (now (outer .entry))) (at (now (inner .entry))) (apart cx (x + i + origin)) b)) ⌝ }
 {
     let mut touched: u64 = 0;
     let mut i = 0;
@@ -74,8 +77,8 @@ fn draw_edge(
     page: &mut [u8],
     view: View,
     ring: Ring,
-    outer: &[u32; 257],
-    inner: &[u32; 257],
+    outer: &[u32; HEIGHTS],
+    inner: &[u32; HEIGHTS],
     y: usize,
     from: usize,
     end: usize,
@@ -106,8 +109,8 @@ fn draw_band(
     page: &mut [u8],
     view: View,
     ring: Ring,
-    outer: &[u32; 257],
-    inner: &[u32; 257],
+    outer: &[u32; HEIGHTS],
+    inner: &[u32; HEIGHTS],
     y: usize,
     p: usize,
     q: usize,
@@ -130,8 +133,8 @@ fn draw_row(
     page: &mut [u8],
     view: View,
     ring: Ring,
-    outer: &[u32; 257],
-    inner: &[u32; 257],
+    outer: &[u32; HEIGHTS],
+    inner: &[u32; HEIGHTS],
     y: usize,
 ) -> u64
     requires { ⌜ Ready view (length (now page)) ring (at (now outer)) (at (now inner)) ⌝ }
@@ -162,8 +165,8 @@ pub fn draw_rows(
     page: &mut [u8],
     view: View,
     ring: Ring,
-    outer: &[u32; 257],
-    inner: &[u32; 257],
+    outer: &[u32; HEIGHTS],
+    inner: &[u32; HEIGHTS],
 ) -> u64
     requires { ⌜ Ready view (length (now page)) ring (at (now outer)) (at (now inner)) ⌝ }
     ensures { λ t. ⌜ RingDrawn (inkOf (ring .level) 512) view ring (at (now (outer .entry))) (at (now (inner .entry)))

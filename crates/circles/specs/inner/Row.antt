@@ -3,6 +3,8 @@ use mathlib.Core.Path.{_≡_}
 use mathlib.Core.List.{List}
 use Prim.Native.Nat.{ℕ, _+_, _*_, _-_, _≤_, _<_, min, max}
 use lib.ListN.{getD}
+use Rattle.numbers.specs.inner.Offset.{origin, offsetMost}
+use Rattle.shapes.specs.Limits.{radiusMost}
 use Rattle.page.specs.inner.Ink.{inkOf}
 use Rattle.page.specs.inner.Paint.{clipped, Lawful, Drawn, clamped}
 use Rattle.page.specs.declared.View.{View}
@@ -28,14 +30,14 @@ pub record Heights (Y : ℕ → ℕ) (R : ℕ) : Type 0 where
 
 -- Y are the heights of a circle, and Z those of a circle of radius r within it
 pub record Nested (Y Z : ℕ → ℕ) (r : ℕ) : Type 0 where
-  pub outer : Heights Y 255
+  pub outer : Heights Y radiusMost
   pub inner : Heights Z r
-  pub small : r ≤ 255
+  pub small : r ≤ radiusMost
   pub within : (k : ℕ) → Z k ≤ Y k
 
 -- in the row at distance b nothing is covered below `hole`, all is from `inner` to `whole`, and nothing from `outer` on
 pub record Measured (Y Z : ℕ → ℕ) (b : ℕ) (row : Widths) : Type 0 where
-  pub order : (row .hole ≤ row .inner) × (row .inner ≤ row .whole) × (row .whole ≤ row .outer) × (row .outer ≤ 255)
+  pub order : (row .hole ≤ row .inner) × (row .inner ≤ row .whole) × (row .whole ≤ row .outer) × (row .outer ≤ radiusMost)
   pub hole-none : (a : ℕ) → a < row .hole → between Y Z a b ≡ 0
   pub whole-all : (a : ℕ) → row .inner ≤ a → a < row .whole → between Y Z a b ≡ 512
   pub outer-none : (a : ℕ) → row .outer ≤ a → between Y Z a b ≡ 0
@@ -44,7 +46,7 @@ pub record Measured (Y Z : ℕ → ℕ) (b : ℕ) (row : Widths) : Type 0 where
 
 -- the coverage of pixel (x, y)
 abbrev pub betweenOn : (ℕ → ℕ) → (ℕ → ℕ) → Ring → ℕ → ℕ → ℕ
-betweenOn Y Z ring x y = between Y Z (apart (ring .cx) (x + 4096)) (apart (ring .cy) (y + 4096))
+betweenOn Y Z ring x y = between Y Z (apart (ring .cx) (x + origin)) (apart (ring .cy) (y + origin))
 
 -- the columns of a clip nearer than d to the centre begin at leftOf and end before rightOf
 abbrev pub leftOf : View → Ring → ℕ → ℕ
@@ -67,15 +69,15 @@ boxed view ring R =
 
 -- every pixel of the clip is near enough to the centre for its heights to be held
 pub record Reached (view : View) (ring : Ring) : Type 0 where
-  pub columns : (x : ℕ) → view .x0 ≤ x → x < view .x1 → apart (ring .cx) (x + 4096) ≤ 255
-  pub rows : (y : ℕ) → view .y0 ≤ y → y < view .y1 → apart (ring .cy) (y + 4096) ≤ 255
+  pub columns : (x : ℕ) → view .x0 ≤ x → x < view .x1 → apart (ring .cx) (x + origin) ≤ radiusMost
+  pub rows : (y : ℕ) → view .y0 ≤ y → y < view .y1 → apart (ring .cy) (y + origin) ≤ radiusMost
 
 -- what the rows of a ring are drawn from: a page of size bytes, a clip within the ring's box, and the heights of its two circles
 pub record Ready (view : View) (size : ℕ) (ring : Ring) (Y Z : ℕ → ℕ) : Type 0 where
   pub lawful : Lawful view size
   pub near : Reached view ring
   pub nested : Nested Y Z (ring .hole)
-  pub centre : ring .cx ≤ 8191
+  pub centre : ring .cx ≤ offsetMost
 
 -- columns p to s of row y, of which q to r are whole
 pub record Band (Y Z : ℕ → ℕ) (view : View) (ring : Ring) (y p q r s : ℕ) : Type 0 where

@@ -4,6 +4,7 @@ use mathlib.Core.Path.{_≡_}
 use mathlib.Core.List.{List}
 use Prim.Native.Nat.{ℕ, _+_, _-_, _*_, _/_, _%_, _≤_, _<_, min, max}
 use lib.Dec.{ltb, leb}
+use Rattle.numbers.specs.inner.Offset.{origin}
 use Rattle.numbers.specs.Sum.{sumTo}
 use Rattle.page.specs.Page.{over}
 use Rattle.page.specs.declared.View.{View}
@@ -59,4 +60,4 @@ Filled w h v y a b l m t =
 
 -- the column or row of an offset, clamped to lo to hi
 abbrev pub clamped : ℕ → ℕ → ℕ → ℕ
-clamped lo hi c = min hi (max lo (c - 4096))
+clamped lo hi c = min hi (max lo (c - origin))

@@ -4,15 +4,16 @@ use Prim.Native.Nat.{_-_, _≤_}
 use native.Mathlib.Omega.{arith}
 use borrow.Author.Tests.{leb-true}
 use borrow.Author.Needs.{needs}
+use Rattle.shapes.specs.Limits.{radiusMost}
 use Rattle.circles.proofs.Chords.{chords-falls, chords-clear, chords-far}
 use Rattle.circles.proofs.cover.covered_width.Statement.{statement}
 use Rattle.circles.proofs.cover.covered_width.Tie as tie
 
 abbrev Inv-loop : tie.InvT-loop
-Inv-loop hs b i₀ i = i ≤ 255
+Inv-loop hs b i₀ i = i ≤ radiusMost
 
 abbrev μ-loop : tie.MeasureT-loop
-μ-loop hs b i₀ i = 255 - i
+μ-loop hs b i₀ i = radiusMost - i
 
 add-i : tie.Need-add-i Inv-loop μ-loop
 add-i c = omega (arith, c .before .pre .0 .most (c .before .args .b))

@@ -4,6 +4,7 @@ use Prim.Native.Nat.{_+_, _-_, _≤_}
 use native.Mathlib.Omega.{arith}
 use borrow.Author.Tests.{leb-true}
 use borrow.Author.Needs.{needs}
+use Rattle.shapes.specs.Limits.{radiusMost}
 use Rattle.coverage.proofs.Chord.{chords-le}
 use Rattle.circles.specs.inner.Row.{at}
 use Rattle.circles.proofs.Chords.{chords-falls, chords-whole}
@@ -11,7 +12,7 @@ use Rattle.circles.proofs.cover.whole_width.Statement.{statement}
 use Rattle.circles.proofs.cover.whole_width.Tie as tie
 
 abbrev Inv-loop : tie.InvT-loop
-Inv-loop hs b i₀ i = i ≤ 255
+Inv-loop hs b i₀ i = i ≤ radiusMost
 
 abbrev μ-loop : tie.MeasureT-loop
 μ-loop hs b i₀ i = i

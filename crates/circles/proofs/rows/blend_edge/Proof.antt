@@ -5,6 +5,7 @@ use Prim.Native.Nat.{ℕ, _+_, _-_, _≤_, _<_}
 use native.Mathlib.Omega.{arith}
 use lib.ListN.{length, getD, set, length-set}
 use borrow.Author.Needs.{needs}
+use Rattle.numbers.specs.inner.Offset.{origin}
 use Rattle.numbers.specs.Sum.{sumTo}
 use Rattle.numbers.proofs.Sum.{sum-none, sum-more, sum-le}
 use Rattle.page.specs.Blend.{blend}
@@ -20,7 +21,7 @@ use Rattle.circles.proofs.rows.blend_edge.Tie as tie
 
 -- the coverage of byte i
 abbrev cover : List ℕ → List ℕ → ℕ → ℕ → ℕ → ℕ → ℕ
-cover outer inner cx x b i = between (at outer) (at inner) (apart cx (x + i + 4096)) b
+cover outer inner cx x b i = between (at outer) (at inner) (apart cx (x + i + origin)) b
 
 abbrev Inv-loop : tie.InvT-loop
 Inv-loop stretch₀ outer inner hole cx x b level touched₀ i₀ stretch touched i =

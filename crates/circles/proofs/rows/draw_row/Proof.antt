@@ -1,6 +1,7 @@
 -- The row is measured by its distance from the centre; outside its bands it has nothing.
 use Prim.Native.Nat.{_+_}
 use native.Mathlib.Omega.{arith}
+use Rattle.numbers.specs.inner.Offset.{origin}
 use Rattle.page.proofs.Drawn.{drawn-count}
 use Rattle.coverage.specs.inner.Circle.{apart}
 use Rattle.circles.specs.inner.Row.{at, Measured}
@@ -12,7 +13,7 @@ use Rattle.circles.proofs.rows.draw_row.Tie as tie
 -- the widths, by the row's own distance
 measured : (c : tie.After-measure)
     → let a = c .before .before .before .args in
-    Measured (at (a .outer .now)) (at (a .inner .now)) (apart (a .ring .cy) (a .y + 4096)) (c .measure .result)
+    Measured (at (a .outer .now)) (at (a .inner .now)) (apart (a .ring .cy) (a .y + origin)) (c .measure .result)
 measured c = rw (c .before .apart-of .ensures) at (c .measure .ensures)
 
 measure-requires : tie.Need-measure-requires
