@@ -13,7 +13,7 @@ ghost use Rattle.circles.specs.inner.Row.{at, between, Heights, Nested, 
 const RADIUS_MOST: u64 = shapes::RADIUS_MOST as u64;
 
 // The distances at which a row changes: a hole, an edge, a whole part, an edge.
-pub struct Widths {
+pub(crate) struct Widths {
     pub hole: u64,
     pub inner: u64,
     pub whole: u64,
@@ -45,7 +45,7 @@ fn covered(hs: &[u32; HEIGHTS], a: u64, b: u64) -> u64
 }
 
 // The coverage over 512 between two circles, the inner of radius hole: a pixel past that needs no heights of it.
-pub fn covered_between(
+pub(crate) fn covered_between(
     outer: &[u32; HEIGHTS],
     inner: &[u32; HEIGHTS],
     hole: u64,
@@ -111,7 +111,7 @@ fn covered_width(hs: &[u32; HEIGHTS], b: u64) -> u64
 }
 
 // Where the row at distance b changes.
-pub fn measure(outer: &[u32; HEIGHTS], inner: &[u32; HEIGHTS], hole: u64, b: u64) -> Widths
+pub(crate) fn measure(outer: &[u32; HEIGHTS], inner: &[u32; HEIGHTS], hole: u64, b: u64) -> Widths
     requires { ⌜ Nested (at (now outer)) (at (now inner)) hole × (b ≤ radiusMost) ⌝ }
     ensures { λ row. ⌜ Measured (at (now (outer .entry))) (at (now (inner .entry))) b row ⌝ }
 {

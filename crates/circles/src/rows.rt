@@ -20,7 +20,7 @@ ghost use Rattle.coverage.specs.inner.Circle.{apart};
 ghost use Rattle.circles.specs.inner.Row.{at, between, Nested, leftOf, rightOf, Ready, Band, RingDrawn};
 
 // The offsets of the centre, the radius of the hole, and the level.
-pub struct Ring {
+pub(crate) struct Ring {
     pub cx: u64,
     pub cy: u64,
     pub hole: u64,
@@ -28,13 +28,13 @@ pub struct Ring {
 }
 
 // The first column of the clip that is nearer than d to the centre, and the first past those.
-pub fn left_at(view: View, ring: Ring, d: u64) -> usize
+pub(crate) fn left_at(view: View, ring: Ring, d: u64) -> usize
     ensures { λ r. ⌜ r ≡ leftOf view ring d ⌝ }
 {
     clamp_offset(view.x0, view.x1, less(ring.cx, d))
 }
 
-pub fn right_at(view: View, ring: Ring, d: u64) -> usize
+pub(crate) fn right_at(view: View, ring: Ring, d: u64) -> usize
     requires { ⌜ (ring .cx ≤ offsetMost) × (d ≤ radiusMost) ⌝ }
     ensures { λ r. ⌜ r ≡ rightOf view ring d ⌝ }
 {
@@ -161,7 +161,7 @@ fn draw_row(
 }
 
 // Draws the rows of the clip.
-pub fn draw_rows(
+pub(crate) fn draw_rows(
     page: &mut [u8],
     view: View,
     ring: Ring,

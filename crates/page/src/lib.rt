@@ -57,7 +57,7 @@ fn dividend(u: u8, v: u8, n: u64, d: u64) -> u64
 }
 
 // Level v over byte u at coverage n over d, by the reciprocal of d: up to 2^23 that is near enough.
-pub fn blend_byte(u: u8, v: u8, n: u64, d: u64, m: u64) -> u8
+fn blend_byte(u: u8, v: u8, n: u64, d: u64, m: u64) -> u8
     requires { ⌜ Coverage n d × Reciprocal d m ⌝ }
     ensures { λ r. ⌜ r ≡ blend u v n d ⌝ }
 {
