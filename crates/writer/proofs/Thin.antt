@@ -165,6 +165,13 @@ module _ (X : RattleType) (answerOf : List ℕ → ℕ → ℕ → ℕ → X .De
     abbrev R : RattleType
     R = T.the-row α
 
+    -- how numbers of 16 and of 64 bits are made
+    abbrev m16 : Makes 𝓤 H A u16 (Is u16)
+    m16 = uint-makes 𝓤 H A W w16
+
+    abbrev m64 : Makes 𝓤 H A usize (Is usize)
+    m64 = uint-makes 𝓤 H A W w64
+
     -- the list l as the writer's borrow δ holds it, and a writer of that list with the place, W and H of an answer
     abbrev x : GName → List ℕ → RefT (List ℕ)
     x δ l = record { ptr = (b′, o′); name = δ; now = l }
@@ -191,8 +198,8 @@ module _ (X : RattleType) (answerOf : List ℕ → ℕ → ℕ → ℕ → X .De
     goes place-fits w-fits h-fits ν δ =
         qed W (‵ (flft (ν ∷ []) fullShare) ∷ ‵ (MutSlice (named 0) (ν ∷ []) u8 .own (x δ ys) (s ∷ [])) ∷ []) ∵
         nothing ! $ owned ! X (Is X) X-makes y _ y-is $ fjoin ! $
-        owned ! u16 (Is u16) (uint-makes 𝓤 H A W w16) (p .h) _ (refl, h-fits) $ fjoin ! $ owned ! u16 (Is u16) (uint-makes 𝓤 H A W w16) (p .w) _ (refl, w-fits) $ fjoin ! $
-        owned ! usize (Is usize) (uint-makes 𝓤 H A W w64) (p .place) _ (refl, place-fits) $ fjoin ! $
+        owned ! u16 (Is u16) m16 (p .h) _ (refl, h-fits) $ fjoin ! $ owned ! u16 (Is u16) m16 (p .w) _ (refl, w-fits) $ fjoin ! $
+        owned ! usize (Is usize) m64 (p .place) _ (refl, place-fits) $ fjoin ! $
         move ! (2 ∷ 0 ∷ []) $ fjoin ! $ nothing ! $ move ! (2 ∷ 0 ∷ []) $ join ! $ join ! $ frame ! $ done !
 
     -- what a writer owns, field by field
@@ -212,14 +219,14 @@ module _ (X : RattleType) (answerOf : List ℕ → ℕ → ℕ → ℕ → X .De
     Told r zs = (r ≡ answerOf ys (p .place) (p .w) (p .h) y) × (zs ≡ listOf ys (p .place) (p .w) (p .h) y)
 
     abbrev Post : Val → SProp 𝓤
-    Post = walkOf 𝓤 H A (thin-ended) (stayed) (thin-clauses 𝓤) .post (((κ, (κ′, tt)), (q, (q′, tt)), bounds, a, vals), tt)
+    Post = walkOf 𝓤 H A thin-ended stayed (thin-clauses 𝓤) .post (((κ, (κ′, tt)), (q, (q′, tt)), bounds, a, vals), tt)
 
     exits : (r : Written) (zs : List ℕ) → Told r zs → r .refusal < 2 ^ 8
         → ent 𝓤 (⋆ 𝓤 H A (‵ (fobs γ (R .coded .code (h zs r))) ∷ ‵ (fbor κ (Body (mem R) b o γ)) ∷ ‵ (flft κ q) ∷ ‵ (flft κ′ q′) ∷ []))
         (Post (vint w8 (r .refusal)))
     exits r zs e refusal-fits =
         qed W (‵ (fobs γ (R .coded .code (h zs r))) ∷ ‵ (fbor κ (Body (mem R) b o γ)) ∷ ‵ (flft κ q) ∷ ‵ (flft κ′ q′) ∷ []) ∵
-        suffices ! _ (ends-at 𝓤 H A (thin-ended) (stayed) (thin-clauses 𝓤) W (((κ, (κ′, tt)), (q, (q′, tt)), bounds, a, vals), tt) (vint w8 (r .refusal)) (r .refusal)
+        suffices ! _ (ends-at 𝓤 H A thin-ended stayed (thin-clauses 𝓤) W (((κ, (κ′, tt)), (q, (q′, tt)), bounds, a, vals), tt) (vint w8 (r .refusal)) (r .refusal)
         (h zs r, (X-last y, tt)) (tt, (tt, tt))) $ says ! ((λ i. e .0 i .refusal), (λ i. h (e .1 i) (e .0 i))) $
         nothing ! $ move ! (4 ∷ 0 ∷ []) $ join ! $ move ! (3 ∷ 0 ∷ []) $ join ! $ frame ! $ feqI ! (List Val) (vptr b o ∷ []) (vptr b o ∷ []) refl $ fjoin3 ! $
         nothing ! $ owned ! X (Is X) X-makes y _ y-is $ fjoin ! $
@@ -242,6 +249,7 @@ module _ (X : RattleType) (answerOf : List ℕ → ℕ → ℕ → ℕ → X .De
           -- bounds of its fields
           let fields = LL.owed (T.the-type α) (T′.the-laws α) (h ys p) _ g in
           let room : Room u8 (length ys) = fields .0 .0 .1 in
+          let place-fits = fields .1 .0 .1 in let w-fits = fields .1 .1 .0 .1 in let h-fits = fields .1 .1 .1 .0 .1 in
           -- copy the list's count and pointer, the place, W and H; the context: the writer's cell, what it owns, the open borrow (3), the list's token, y's, then the locals from 9 down
           assigns ! (of-opd ! (load ! (from ! (hop ! (look ! 23 refl) (fld ! refl (fld ! refl (stop !))))) (look-in ! 0 (sub ! 1 refl (sub ! 0 refl (whole !)))))) (from ! (stop !))
           (init ! 17 refl (tt, record { fits = room .0 })) $
@@ -250,32 +258,33 @@ module _ (X : RattleType) (answerOf : List ℕ → ℕ → ℕ → ℕ → X .De
           assigns ! (agg ! (and-then ! (load ! (from ! (stop !)) (look ! 15 refl)) (and-then ! (load ! (from ! (stop !)) (look ! 17 refl)) (no-more !)))) (from ! (stop !))
           (init ! 13 refl (tt, (tt, (record { fits = room .0 }, tt)))) $
           assigns ! (of-opd ! (load ! (from ! (hop ! (look ! 23 refl) (fld ! refl (stop !)))) (look-in ! 0 (sub ! 1 refl (whole !))))) (from ! (stop !))
-          (init ! 11 refl (tt, record { fits = fields .1 .0 .1 })) $
+          (init ! 11 refl (tt, record { fits = place-fits })) $
           assigns ! (of-opd ! (load ! (from ! (hop ! (look ! 23 refl) (fld ! refl (stop !)))) (look-in ! 0 (sub ! 2 refl (whole !))))) (from ! (stop !))
-          (init ! 9 refl (tt, record { fits = fields .1 .1 .0 .1 })) $
+          (init ! 9 refl (tt, record { fits = w-fits })) $
           assigns ! (of-opd ! (load ! (from ! (hop ! (look ! 23 refl) (fld ! refl (stop !)))) (look-in ! 0 (sub ! 3 refl (whole !))))) (from ! (stop !))
-          (init ! 7 refl (tt, record { fits = fields .1 .1 .1 .0 .1 })) $
+          (init ! 7 refl (tt, record { fits = h-fits })) $
           -- lend the list for the call, for the lifetime ν
           move ! (1 ∷ []) $ use1 W (given (mach p ∷ [] ≡ mach p ∷ []) (‵ (all-own (T.the-type α .parts) (T′.the-laws α) (x γ′ ys, (p .place, (p .w, (p .h, tt)))))))
           (own-open 𝓤 H A W (T.the-type α) (T′.the-laws α) (x γ′ ys, (p .place, (p .w, (p .h, tt)))) (mach p)) $ learn ! (λ _. fsplit ! $
           move ! (6 ∷ []) $ split ! $ lft-new ! tt (λ ν. move ! (3 ∷ 1 ∷ []) $
           use2 W (later (some (λ (δ : GName). ‵ (MutSlice (named 0) (ν ∷ []) u8 .own (x δ ys) (s ∷ [])) ⊛ ‵ (KeptList u8 κ′ (ν ∷ []) q′ γ′ b′ o′ δ ys))))
           (lend-list u8 κ′ (ν ∷ []) q′ γ′ b′ o′ 𝓤 H A W (named 1) (named 0) ys) $ await ! tt $ pick ! (λ δ. split ! $
-          move ! (2 ∷ 0 ∷ []) $ use2 W (raw (Covered 𝓤 H A .pre (to-covered ν δ))) (goes (fields .1 .0 .1) (fields .1 .1 .0 .1) (fields .1 .1 .1 .0 .1) ν δ) $
+          move ! (2 ∷ 0 ∷ []) $ use2 W (raw (Covered 𝓤 H A .pre (to-covered ν δ))) (goes place-fits w-fits h-fits ν δ) $
           calls-at ! fm (Covered 𝓤 H A) known (to-covered ν δ)
           (and-then ! (load ! (from ! (stop !)) (look ! 15 refl))
           (and-then ! (load ! (from ! (stop !)) (look ! 13 refl))
           (and-then ! (load ! (from ! (stop !)) (look ! 11 refl))
           (and-then ! (load ! (from ! (stop !)) (look ! 9 refl)) (and-then ! (load ! (from ! (stop !)) (look ! 23 refl)) (no-more !)))))) (λ w.
           use1 W (later (some (λ (r : Written). ((‵ (flft (ν ∷ []) fullShare) ⊛ ‵ ftrue) ⊛ ‵ (P.the-row .own r (w ∷ []))) ⊛ raw
-          (ensured 𝓤 H A (covered-ended) (covered-clauses 𝓤 H A) (ν ∷ [], tt) (passed δ) tt r)))) (id⊢ 𝓤 _) $ await ! tt $ pick ! (λ r.
+          (ensured 𝓤 H A covered-ended (covered-clauses 𝓤 H A) (ν ∷ [], tt) (passed δ) tt r)))) (id⊢ 𝓤 _) $ await ! tt $ pick ! (λ r.
           -- the call's answer r and the list zs that it left
           split ! $ move ! (1 ∷ []) $
-          use1 W (some (λ (zs : Lasts (covered-ended) (ν ∷ [], tt) (passed δ)). ‵ (lasts (covered-ended) (ν ∷ [], tt) (passed δ) zs) ⊛ raw (fact 𝓤 (Told r (zs .0)))))
+          use1 W (some (λ (zs : Lasts covered-ended (ν ∷ [], tt) (passed δ)). ‵ (lasts covered-ended (ν ∷ [], tt) (passed δ) zs) ⊛ raw (fact 𝓤 (Told r (zs .0)))))
           (id⊢ 𝓤 _) $ pick ! (λ zs.
           split ! $ move ! (1 ∷ []) $ heard ! (Told r (zs .0)) (λ e. fsplit ! $ fsplit ! $ move ! (1 ∷ []) $ feqL ! (λ l.
           move ! (2 ∷ []) $ split ! $ move ! (1 ∷ []) $ peeks ! P.the-row (Is P.the-row) (shows 𝓤 H A P.the-row) r (w ∷ []) (λ is.
           let answer = LL.owed P.the-type P′.the-laws r _ is in
+          let new-place = answer .1 .0 .1 in let new-w = answer .1 .1 .0 .1 in let new-h = answer .1 .1 .1 .0 .1 in
           land ! (from ! (stop !)) (init ! 24 refl (LL.lawful P.the-type P′.the-laws 𝓤 H A W .typed r _ is .0)) $
           rewrite ! 24 (λ (z : Val). ‵ (fat fullShare P′.mir l₃ 0 z)) (ap only (LL.tells P.the-type P′.the-laws r _ is)) refl $
           -- end ν, and take the list back
@@ -284,16 +293,15 @@ module _ (X : RattleType) (answerOf : List ℕ → ℕ → ℕ → ℕ → X .De
           (take-list u8 κ′ (ν ∷ []) q′ γ′ b′ o′ 𝓤 H A W (named 1) (named 0) ys δ (zs .0) room l) $ await ! tt $ split ! $
           -- store the place, W and H; the writer's cell is now the eighth item, and the locals begin at the thirteenth
           assigns ! (of-opd ! (load ! (from ! (fld ! refl (stop !))) (look-in ! 24 (sub ! 1 refl (whole !))))) (from ! (hop ! (look ! 28 refl) (fld ! refl (stop !))))
-          (store-in ! 7 (sub ! 1 refl (whole !)) (tt, record { fits = answer .1 .0 .1 })) $
+          (store-in ! 7 (sub ! 1 refl (whole !)) (tt, record { fits = new-place })) $
           assigns ! (of-opd ! (load ! (from ! (fld ! refl (stop !))) (look-in ! 24 (sub ! 2 refl (whole !))))) (from ! (hop ! (look ! 28 refl) (fld ! refl (stop !))))
-          (store-in ! 7 (sub ! 2 refl (whole !)) (tt, record { fits = answer .1 .1 .0 .1 })) $
+          (store-in ! 7 (sub ! 2 refl (whole !)) (tt, record { fits = new-w })) $
           assigns ! (of-opd ! (load ! (from ! (fld ! refl (stop !))) (look-in ! 24 (sub ! 3 refl (whole !))))) (from ! (hop ! (look ! 28 refl) (fld ! refl (stop !))))
-          (store-in ! 7 (sub ! 3 refl (whole !)) (tt, record { fits = answer .1 .1 .1 .0 .1 })) $
+          (store-in ! 7 (sub ! 3 refl (whole !)) (tt, record { fits = new-h })) $
           assigns ! (of-opd ! (load ! (from ! (fld ! refl (stop !))) (look-in ! 24 (sub ! 0 refl (whole !))))) (from ! (stop !)) (init ! 30 refl (tt, record { fits = answer .0 .1 })) $
           -- put the writer together, close its borrow, and return
-          nothing ! $ owned ! u16 (Is u16) (uint-makes 𝓤 H A W w16) (r .h) _ (refl, answer .1 .1 .1 .0 .1) $ fjoin ! $
-          owned ! u16 (Is u16) (uint-makes 𝓤 H A W w16) (r .w) _ (refl, answer .1 .1 .0 .1) $ fjoin ! $
-          owned ! usize (Is usize) (uint-makes 𝓤 H A W w64) (r .place) _ (refl, answer .1 .0 .1) $ fjoin ! $ move ! (1 ∷ 0 ∷ []) $ fjoin ! $
+          nothing ! $ owned ! u16 (Is u16) m16 (r .h) _ (refl, new-h) $ fjoin ! $ owned ! u16 (Is u16) m16 (r .w) _ (refl, new-w) $ fjoin ! $
+          owned ! usize (Is usize) m64 (r .place) _ (refl, new-place) $ fjoin ! $ move ! (1 ∷ 0 ∷ []) $ fjoin ! $
           use1 W (‵ (R .own (h (zs .0) r) (mach r ∷ [])))
           (makes 𝓤 H A W (MutSlice (named 1) κ′ u8 ∷ usize ∷ u16 ∷ u16 ∷ []) (had r (zs .0))
           (s ∷ [], (vint w64 (r .place) ∷ [], (vint w16 (r .w) ∷ [], (vint w16 (r .h) ∷ [], tt))))) $
@@ -312,9 +320,9 @@ module _ (X : RattleType) (answerOf : List ℕ → ℕ → ℕ → ℕ → X .De
       {M : Type 1} (𝓤 : URA M) (H : Heap 𝓤) (A : Atoms 𝓤) (W : Given 𝓤 H A) (X-makes : Makes 𝓤 H A X (Is X))
       (X-typed : (y : X .Denot) → Is X y (val y ∷ []) → T (hasTy ty (val y)) × WT (val y)) (X-silent : Silent 𝓤 H A W 2 (plain (λ _. X)) yes) where
     walks : (C : Calls 𝓤 H) (Λ : Loops 𝓤 H) → FmC 𝓤 H (W .laws) C → Triple 𝓤 (C callee) (Covered 𝓤 H A)
-        → Walks 𝓤 H A (thin-ended) (stayed) (WpFn 𝓤 H C Λ (thin ty callee)) (thin-clauses 𝓤)
+        → Walks 𝓤 H A thin-ended stayed (WpFn 𝓤 H C Λ (thin ty callee)) (thin-clauses 𝓤)
     walks C Λ fm known =
-        walked 𝓤 H A (thin-ended) (stayed) (thin-clauses 𝓤) (WpFn 𝓤 H C Λ (thin ty callee))
+        walked 𝓤 H A thin-ended stayed (thin-clauses 𝓤) (WpFn 𝓤 H C Λ (thin ty callee))
         (λ κs. (ptr-vals, ((λ y. val y ∷ []), tt))) (λ κs. (mut-tells (named 0) (κs .0) (T.the-row (namedLft 2 1 tt κs)), (X-tells, tt)))
         (λ κs qs bounds a g are. via 𝓤 _ (fst∗ 𝓤 _ (emp 𝓤))
         (walk ty callee 𝓤 H A W X-makes X-last (κs .0) (κs .1 .0) bounds (qs .0) (qs .1 .0) (a .0 .ptr .0) (a .0 .ptr .1) (a .0 .name)
@@ -322,7 +330,7 @@ module _ (X : RattleType) (answerOf : List ℕ → ℕ → ℕ → ℕ → X .De
         (a .1 .0) (val (a .1 .0)) (are .1 .0) (X-typed (a .1 .0) (are .1 .0)) C Λ fm known))
 
     pub thin-meets : (𝓣 : Tables 𝓤 H) → Triple 𝓤 (𝓣 .C callee) (Covered 𝓤 H A)
-        → Meets 𝓤 H A (thin-ended .signature) (WpFn 𝓤 H (𝓣 .C) (𝓣 .Λ) (thin ty callee)) (closing 𝓤 H A (thin-ended) (thin-clauses 𝓤))
+        → Meets 𝓤 H A (thin-ended .signature) (WpFn 𝓤 H (𝓣 .C) (𝓣 .Λ) (thin ty callee)) (closing 𝓤 H A thin-ended (thin-clauses 𝓤))
     thin-meets 𝓣 known =
-        walk-meets 𝓤 H A (thin-ended) (stayed) W (goes-ref 𝓤 H A W 2 0 tt WriterS, (goes-none 𝓤 H A W 2 (λ _. X) yes X-silent, tt)) (thin-clauses 𝓤)
+        walk-meets 𝓤 H A thin-ended stayed W (goes-ref 𝓤 H A W 2 0 tt WriterS, (goes-none 𝓤 H A W 2 (λ _. X) yes X-silent, tt)) (thin-clauses 𝓤)
         (WpFn 𝓤 H (𝓣 .C) (𝓣 .Λ) (thin ty callee)) (WpFn-mono 𝓤 H (W .laws) 𝓣 (thin ty callee)) (walks (𝓣 .C) (𝓣 .Λ) (fmOf 𝓤 H (W .laws) 𝓣) known)
