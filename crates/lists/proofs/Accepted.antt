@@ -44,6 +44,7 @@ nothing-behind s place rs e = go (lt-or-le 0 (length s))
     go (inl h) = absurd (never (rw (lt-ltb 0 (length s) h) at e))
     go (inr h) = let k : accepted [] ≡ accepted rs = rw (le-ltb 0 (length s) h) at e in (omega arith, cc)
 
+-- by the fuel: a turn that is accepted found no refusal, and is the end or leaves an accepted rest
 pub holds : (b : Basis) (fuel : ℕ) (s : List ℕ) (place : ℕ) (rs : List Record) → recordsFrom fuel b s place ≡ accepted rs → Holds b s rs
 unfolding recordsFrom
 holds b zero s place rs e = absurd (never e)
@@ -66,6 +67,7 @@ holds b (suc fuel) s place rs e =
         subst (Holds b s) (sym (t .same)) (more none k (after (t .rest) (t .is)))
 
 -- ---- a whole list
+-- an accepted list is not refused by its header, whatever the tests are
 pub list-headed : (tests : List (Bool × ℕ)) (s : List ℕ) (rs : List Record) → recordsOf tests s ≡ accepted rs → headerRefusal tests s ≡ 0
 unfolding recordsOf
 list-headed tests s rs e = go (lt-or-le 0 (headerRefusal tests s))

@@ -100,6 +100,7 @@ module _ {b : Basis} {place : ℕ} {list : List ℕ} {f : Settings} {records : L
         pub same : records ≡ r ∷ records-left
         pub left : Left b list (place + n) g records-left
 
+      -- what holds at the place holds behind the record: drop (place + n) list = drop n (drop place list)
       pub left-next : Step
       left-next =
           record {

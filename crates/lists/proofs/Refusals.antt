@@ -1,14 +1,14 @@
 -- What is known of a record and of a header in which no refusal is found.
 use mathlib.Core.Path.{_≡_, refl}
-use mathlib.Core.Bool.{Bool, true, false, not, cond, _||_}
+use mathlib.Core.Bool.{Bool, true, false, not, cond}
 use mathlib.Core.List.{List, []}
 use Prim.Native.Nat.{ℕ, zero, suc, _≤_, _<_}
 use native.Mathlib.Omega.{arith}
 use borrow.Author.Tests.{lt-ltb, ltb-false, eqb-true, eqb-false, not-false}
 use lib.Dec.{ltb, eqb}
 use lib.ListN.{length, drop}
-use Rattle.shapes.specs.Limits.{first, sizeRefusal, shapeRefusal, recordRefusal, offRange, radiusMost, offRadius, refusalsOf}
-use Rattle.shapes.proofs.Limits.{clear, tried-clear, or-clear}
+use Rattle.shapes.specs.Limits.{first, sizeRefusal, shapeRefusal, recordRefusal}
+use Rattle.shapes.proofs.Limits.{clear, tried-clear, disc-lawful, ring-lawful}
 use Rattle.shapes.specs.declared.Shape.{Shape}
 use Rattle.shapes.specs.declared.Shape.the-variants.{Line as line, Disc as disc, Ring as ring}
 use Rattle.shapes.specs.declared.Basis.{Basis}
@@ -41,19 +41,10 @@ readable b s e =
 
 -- the radius and the width of a lawful record are one byte each
 one-byte-shape : (s : Shape) → shapeRefusal s ≡ 0 → OneByte s
-unfolding shapeRefusal refusalsOf OneByte
+unfolding OneByte
 one-byte-shape (line l) e = tt
-one-byte-shape (disc d) e =
-    let range = clear (offRange (disc d)) 6 _ e in
-    let radius = clear (offRadius (d .radius)) 9 _ (range .1) in
-    ltb-false _ _ (or-clear (ltb (d .radius) 1) (ltb radiusMost (d .radius)) (radius .0) .1)
-one-byte-shape (ring g) e =
-    let range = clear (offRange (ring g)) 6 _ e in
-    let radius = clear (offRadius (g .radius)) 9 _ (range .1) in
-    let width = clear (ltb (g .width) 1 || ltb (g .radius) (g .width)) 10 0 (radius .1) in
-    let r : g .radius ≤ 255 = ltb-false _ _ (or-clear (ltb (g .radius) 1) (ltb radiusMost (g .radius)) (radius .0) .1) in
-    let k : g .width ≤ g .radius = ltb-false _ _ (or-clear (ltb (g .width) 1) (ltb (g .radius) (g .width)) (width .0) .1) in
-    (r, omega arith)
+one-byte-shape (disc d) e = disc-lawful d e .most
+one-byte-shape (ring g) e = let p = ring-lawful g e in (p .circle .most, omega (arith, p .most, p .circle .most))
 
 pub one-byte : (b : Basis) (r : Record) → recordRefusal b r ≡ 0 → OneByteRecord r
 unfolding recordRefusal

@@ -51,6 +51,7 @@ reached-start d b list place h = record { inside = h; fuel = length list; enough
 -- a turn that found the refusal f in the part of the list from the place on
 module _ {d : Header} {b : Basis} {list : List ℕ} {answer : Checked} {place f : ℕ} (p : Reached d b list answer place)
     (found : f ≡ readRefusal b (take (length list - place) (drop place list))) where
+  -- the part that is read is all that is left: take (length − place) (drop place list) = drop place list
   refusal-is : readRefusal b (drop place list) ≡ f
   refusal-is =
       ap (readRefusal b) (sym (take-all (length list - place) (drop place list) (le-of-eq (length-drop place list))))
@@ -80,6 +81,7 @@ module _ {d : Header} {b : Basis} {list : List ℕ} {answer : Checked} {place f 
         let k = length-drop place list in
         (omega arith, omega arith)
 
+    -- answer = the turn at the place = what stands behind the end record
     after-end : getD list place 0 ≡ 0 → answer ≡ checkedAs d (behindEnd (drop n (drop place list)) (place + n))
     after-end k =
         p .same
@@ -100,6 +102,7 @@ module _ {d : Header} {b : Basis} {list : List ℕ} {answer : Checked} {place f 
         let e = left-length in
         sym (after-end k ∙ rw (le-ltb 0 (length (drop n (drop place list))) (omega arith)))
 
+    -- answer = the turn at the place = the turns from place + n on, with one unit of fuel less
     pub next-reached : (getD list place 0 ≡ 0 → ⊥) → Reached d b list answer (place + n)
     next-reached k =
         let inside = next-inside in

@@ -60,6 +60,7 @@ front : {a k : ℕ} {bs cs : List ℕ} → a ≡ k → bs ≡ cs → k ∷ bs �
 front e f = λ i. sym e i ∷ f i
 
 module _ (s : List ℕ) (b : AllBytes s) where
+  -- kind by kind: a field that was read is written as the bytes that it was read from
   kind-again : (k : ℕ) → 0 < kindSize k → getD s 0 0 ≡ k → recordBytes (decoded k s) ≡ firsts (kindSize k) 0 s
   unfolding firsts kindSize kindOf fieldsOf decoded
   kind-again zero h e = front e refl
@@ -121,6 +122,7 @@ module _ (w h : ℕ) (s : List ℕ) (none : readRefusal (sized w h) s ≡ 0) (b 
   step-place : recordWritten m place w h (recordAt s) .place ≡ place + sizeAt s
   step-place = ap (λ (r : Written). r .place) (sym (done .0)) ∙ ap (λ (n : ℕ). place + n) long
 
+-- one record, then the rest behind it: put (take n s), then put (drop n s), is put s
 records-again : {w h : ℕ} {s : List ℕ} {rs : List Record} → Holds (sized w h) s rs → AllBytes s → (m : List ℕ) (place : ℕ) → headerSize ≤ place
     → place + length s ≤ length m → place + length s ≤ listMost → recordsList m place w h rs ≡ putAt place s m
 unfolding recordsList
@@ -141,7 +143,8 @@ records-again {w} {h} (more {s} {rs} none k p) b m place low inside most =
 
 -- ---- a whole list
 module _ (tests : List (Bool × ℕ)) (l : List ℕ) (rs : List Record) (b : AllBytes l) (e : recordsOf tests l ≡ accepted rs) (m : List ℕ) (place w h : ℕ) where
-  -- written into a list that is as long at least, from any place and with any W and H held
+  -- written into a list that is as long at least, from any place and with any W and H held:
+  -- the header at 0, the records behind it, and take ++ drop is the whole
   pub written-again : length l ≤ length m → listWritten m place w h (headerAt l) rs ≡ l ++ drop (length l) m
   unfolding listWritten
   written-again fits =

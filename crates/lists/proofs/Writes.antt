@@ -98,6 +98,7 @@ unfolding headerWriteRefusal
 header-none n d size long = simp (size, le-ltb (min n listMost) headerSize (omega arith))
 
 -- ---- a write leaves the list as long as it is
+-- |take place l| + |bs| + |drop (place + |bs|) l| = |l|
 pub put-length : (l : List ℕ) (place : ℕ) (bs : List ℕ) → place + length bs ≤ length l → length (putAt place bs l) ≡ length l
 put-length l place bs h =
     let p = length-take-le place l (omega arith) in

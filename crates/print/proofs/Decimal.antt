@@ -18,6 +18,7 @@ value-behind : (n b : ℕ) (bs : List ℕ) → valueFrom n (bs ++ b ∷ []) ≡ 
 value-behind n b [] = refl
 value-behind n b (x ∷ xs) = value-behind (10 * n + (x - 48)) b xs
 
+-- value (digits of n / 10, then the last) = 10 · (n / 10) + n % 10 = n
 pub digits-value : (k n : ℕ) → n < 10 ^ k → valueFrom 0 (digits k n) ≡ n
 unfolding digits
 digits-value zero n h = let e : 0 ≡ n = omega arith in e

@@ -36,6 +36,7 @@ pub level-more : (w x i : ℕ) (vs : List ℕ) → i < length vs
 unfolding levelsText
 level-more w x i vs h = rw add-one (ap (λ (l : List ℕ). levelsText w x l) (drop-cons vs i 0 h))
 
+-- q ++ rest = p ++ (level ++ rest) = p ++ the text from level i on
 pub level-step : (w x i b y : ℕ) (vs p q t : List ℕ) → i < length vs → p ++ levelsText w x (drop i vs) ≡ t → q ≡ p ++ number 3 (getD vs i 0) b
     → b ≡ afterLevel w x → y ≡ nextColumn w x → q ++ levelsText w y (drop (i + 1) vs) ≡ t
 level-step w x i b y vs p q t h whole put after column =

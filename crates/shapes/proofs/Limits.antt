@@ -78,7 +78,7 @@ outside-offset z = ap not (range-offset z) ∙ go (lt-or-le (offsetOf z) 8192)
 in-of : {z : ℤ} → outside z ≡ false → InRange z
 in-of {z} e = in-range z (not-false (inRange z) e)
 
--- equality of two coordinates in range
+-- equality of two coordinates in range: a ≤ b ≤ a, and so their offsets, which differ from them by one number
 same-offset : {a b : ℤ} → InRange a → InRange b → same a b ≡ eqb (offsetOf a) (offsetOf b)
 same-offset {a} {b} p q = go (eq-or-ne (offsetOf a) (offsetOf b))
   where
@@ -101,7 +101,7 @@ kept w z h =
 pub point-kept : {x y : ℤ} {p : Point} → SFits w16 x → SFits w16 y → p ≡ pointOf (toZ w16 (ofZ w16 x)) (toZ w16 (ofZ w16 y)) → p ≡ pointOf x y
 point-kept f g e = rw (toZ-ofZ f, toZ-ofZ g) at e
 
--- the refusals of a line by the offsets of its ends
+-- the refusals of a line by the offsets of its ends: these tell the range, and in range also whether two coordinates are the same
 pub line-refusals : (l : Line) (e : Ends) → e ≡ endsOf l
     → shapeRefusal (line l)
     ≡ cond (ltb 8191 (e .x0) || ltb 8191 (e .y0) || ltb 8191 (e .x1) || ltb 8191 (e .y1)) 7 (cond (eqb (e .x0) (e .x1) && eqb (e .y0) (e .y1)) 9 0)

@@ -95,8 +95,13 @@ thin ty callee = record {
       (seq (store 1) (seq (store 2) (seq (store 3) (seq (assign (place 0 []) (rvOpd (copy (answered 0)))) return))))))))));
 }
 
--- ---- the covered function's contract
+-- the writer's type in a signature
+abbrev WriterS : Slot 2
+WriterS = plain (λ κs. T.the-row (namedLft 2 1 tt κs))
+
+-- ---- the two contracts and the walk, for a value of type X and a covered function that answers and leaves what these two give
 module _ (X : RattleType) (answerOf : List ℕ → ℕ → ℕ → ℕ → X .Denot → Written) (listOf : List ℕ → ℕ → ℕ → ℕ → X .Denot → List ℕ) where
+  -- ---- the covered function's contract
   abbrev covered-ended : Ended
   covered-ended = record {
     signature = record {
@@ -120,11 +125,7 @@ module _ (X : RattleType) (answerOf : List ℕ → ℕ → ℕ → ℕ → X .De
     abbrev pub Covered : Contract 𝓤
     Covered = tripleOf 𝓤 H A (covered-ended .signature) (closing 𝓤 H A covered-ended covered-clauses)
 
--- ---- the thin function's contract
-abbrev WriterS : Slot 2
-WriterS = plain (λ κs. T.the-row (namedLft 2 1 tt κs))
-
-module _ (X : RattleType) (answerOf : List ℕ → ℕ → ℕ → ℕ → X .Denot → Written) (listOf : List ℕ → ℕ → ℕ → ℕ → X .Denot → List ℕ) where
+  -- ---- the thin function's contract
   abbrev thin-ended : Ended
   thin-ended = record {
     signature = record {
@@ -153,175 +154,183 @@ module _ (X : RattleType) (answerOf : List ℕ → ℕ → ℕ → ℕ → X .De
     ensures = λ _ r e. fact 𝓤 ((r ≡ answer (now (a .0)) (a .1 .0) .refusal) × (now (e .0) ≡ after (now (a .0)) (a .1 .0)));
   }
 
--- ---- the walk
-module _ (ty : Ty) (callee : Name) (X : RattleType) (answerOf : List ℕ → ℕ → ℕ → ℕ → X .Denot → Written) (listOf : List ℕ → ℕ → ℕ → ℕ → X .Denot → List ℕ)
-    {M : Type 1} (𝓤 : URA M) (H : Heap 𝓤) (A : Atoms 𝓤) (W : Given 𝓤 H A) (X-makes : Makes 𝓤 H A X (Is X)) (X-last : (y : X .Denot) → Last (X .exit yes) y)
-    (κ κ′ : Lft) (bounds : AllOutlive 2 (thin-ended X answerOf listOf .signature .outlives) (κ, (κ′, tt))) (q q′ : Share) (b o : ℕ) (γ : GName) (b′ o′ : ℕ)
-    (γ′ : GName) (ys : List ℕ) (p : Written) (y : X .Denot) (v : Val) (y-is : Is X y (v ∷ [])) (v-typed : T (hasTy ty v) × WT v) where
-  abbrev α : NamedLft
-  α = record { mir = named 1; lft = κ′ }
+  -- ---- the walk
+  module _ (ty : Ty) (callee : Name)
+      {M : Type 1} (𝓤 : URA M) (H : Heap 𝓤) (A : Atoms 𝓤) (W : Given 𝓤 H A) (X-makes : Makes 𝓤 H A X (Is X)) (X-last : (y : X .Denot) → Last (X .exit yes) y)
+      (κ κ′ : Lft) (bounds : AllOutlive 2 (thin-ended .signature .outlives) (κ, (κ′, tt))) (q q′ : Share) (b o : ℕ) (γ : GName) (b′ o′ : ℕ) (γ′ : GName)
+      (ys : List ℕ) (p : Written) (y : X .Denot) (v : Val) (y-is : Is X y (v ∷ [])) (v-typed : T (hasTy ty v) × WT v) where
+    abbrev α : NamedLft
+    α = record { mir = named 1; lft = κ′ }
 
-  abbrev R : RattleType
-  R = T.the-row α
+    abbrev R : RattleType
+    R = T.the-row α
 
-  -- the list l as the writer's borrow δ holds it, and a writer of that list with the place, W and H of an answer
-  abbrev x : GName → List ℕ → RefT (List ℕ)
-  x δ l = record { ptr = (b′, o′); name = δ; now = l }
+    -- how numbers of 16 and of 64 bits are made
+    abbrev m16 : Makes 𝓤 H A u16 (Is u16)
+    m16 = uint-makes 𝓤 H A W w16
 
-  abbrev h : List ℕ → Written → Writer
-  h l r = record { list = x γ′ l; place = r .place; w = r .w; h = r .h }
+    abbrev m64 : Makes 𝓤 H A usize (Is usize)
+    m64 = uint-makes 𝓤 H A W w64
 
-  -- both as machine values
-  abbrev s : Val
-  s = sliceVal (b′, o′) (length ys)
+    -- the list l as the writer's borrow δ holds it, and a writer of that list with the place, W and H of an answer
+    abbrev x : GName → List ℕ → RefT (List ℕ)
+    x δ l = record { ptr = (b′, o′); name = δ; now = l }
 
-  abbrev mach : Written → Val
-  mach r = vstruct (vcons s (vcons (vint w64 (r .place)) (vcons (vint w16 (r .w)) (vcons (vint w16 (r .h)) vnil))))
+    abbrev h : List ℕ → Written → Writer
+    h l r = record { list = x γ′ l; place = r .place; w = r .w; h = r .h }
 
-  -- the covered function's arguments, and the values at which its triple is used
-  abbrev passed : GName → RefT (List ℕ) × (ℕ × (ℕ × (ℕ × (X .Denot × Unit {0}))))
-  passed δ = (x δ ys, (p .place, (p .w, (p .h, (y, tt)))))
+    -- both as machine values
+    abbrev s : Val
+    s = sliceVal (b′, o′) (length ys)
 
-  abbrev to-covered : ℕ → GName → Covered X answerOf listOf 𝓤 H A .Ghost
-  to-covered ν δ = (((ν ∷ [], tt), (fullShare, tt), tt, passed δ, (s ∷ [], (vint w64 (p .place) ∷ [], (vint w16 (p .w) ∷ [], (vint w16 (p .h) ∷ [], (v ∷ [], tt)))))), tt)
+    abbrev mach : Written → Val
+    mach r = vstruct (vcons s (vcons (vint w64 (r .place)) (vcons (vint w16 (r .w)) (vcons (vint w16 (r .h)) vnil))))
 
-  goes : p .place < 2 ^ 64 → p .w < 2 ^ 16 → p .h < 2 ^ 16 → (ν : ℕ) (δ : GName)
-      → ent 𝓤 (sep 𝓤 (A .lft (ν ∷ []) fullShare) (sem 𝓤 H A (MutSlice (named 0) (ν ∷ []) u8 .own (x δ ys) (s ∷ [])))) (Covered X answerOf listOf 𝓤 H A .pre (to-covered ν δ))
-  goes place-fits w-fits h-fits ν δ =
-      qed W (‵ (flft (ν ∷ []) fullShare) ∷ ‵ (MutSlice (named 0) (ν ∷ []) u8 .own (x δ ys) (s ∷ [])) ∷ []) ∵
-      nothing ! $ owned ! X (Is X) X-makes y _ y-is $ fjoin ! $
-      owned ! u16 (Is u16) (uint-makes 𝓤 H A W w16) (p .h) _ (refl, h-fits) $ fjoin ! $ owned ! u16 (Is u16) (uint-makes 𝓤 H A W w16) (p .w) _ (refl, w-fits) $ fjoin ! $
-      owned ! usize (Is usize) (uint-makes 𝓤 H A W w64) (p .place) _ (refl, place-fits) $ fjoin ! $
-      move ! (2 ∷ 0 ∷ []) $ fjoin ! $ nothing ! $ move ! (2 ∷ 0 ∷ []) $ join ! $ join ! $ frame ! $ done !
+    -- the covered function's arguments, and the values at which its triple is used
+    abbrev passed : GName → RefT (List ℕ) × (ℕ × (ℕ × (ℕ × (X .Denot × Unit {0}))))
+    passed δ = (x δ ys, (p .place, (p .w, (p .h, (y, tt)))))
 
-  -- what a writer owns, field by field
-  abbrev had : Written → List ℕ → List Val × (List Val × (List Val × (List Val × Unit {0}))) → Fml
-  had r zs vss = fsep (MutSlice (named 1) κ′ u8 .own (x γ′ zs) (vss .0))
-      (fsep (usize .own (r .place) (vss .1 .0)) (fsep (u16 .own (r .w) (vss .1 .1 .0)) (fsep (u16 .own (r .h) (vss .1 .1 .1 .0)) ftrue)))
+    abbrev to-covered : ℕ → GName → Covered 𝓤 H A .Ghost
+    to-covered ν δ = (((ν ∷ [], tt), (fullShare, tt), tt, passed δ, (s ∷ [], (vint w64 (p .place) ∷ [], (vint w16 (p .w) ∷ [], (vint w16 (p .h) ∷ [], (v ∷ [], tt)))))), tt)
 
-  -- the thin function's arguments, and their machine values
-  abbrev a : RefT Writer × (X .Denot × Unit {0})
-  a = (record { ptr = (b, o); name = γ; now = h ys p }, (y, tt))
+    goes : p .place < 2 ^ 64 → p .w < 2 ^ 16 → p .h < 2 ^ 16 → (ν : ℕ) (δ : GName)
+        → ent 𝓤 (sep 𝓤 (A .lft (ν ∷ []) fullShare) (sem 𝓤 H A (MutSlice (named 0) (ν ∷ []) u8 .own (x δ ys) (s ∷ [])))) (Covered 𝓤 H A .pre (to-covered ν δ))
+    goes place-fits w-fits h-fits ν δ =
+        qed W (‵ (flft (ν ∷ []) fullShare) ∷ ‵ (MutSlice (named 0) (ν ∷ []) u8 .own (x δ ys) (s ∷ [])) ∷ []) ∵
+        nothing ! $ owned ! X (Is X) X-makes y _ y-is $ fjoin ! $
+        owned ! u16 (Is u16) m16 (p .h) _ (refl, h-fits) $ fjoin ! $ owned ! u16 (Is u16) m16 (p .w) _ (refl, w-fits) $ fjoin ! $
+        owned ! usize (Is usize) m64 (p .place) _ (refl, place-fits) $ fjoin ! $
+        move ! (2 ∷ 0 ∷ []) $ fjoin ! $ nothing ! $ move ! (2 ∷ 0 ∷ []) $ join ! $ join ! $ frame ! $ done !
 
-  abbrev vals : List Val × (List Val × Unit {0})
-  vals = (vptr b o ∷ [], (v ∷ [], tt))
+    -- what a writer owns, field by field
+    abbrev had : Written → List ℕ → List Val × (List Val × (List Val × (List Val × Unit {0}))) → Fml
+    had r zs vss = fsep (MutSlice (named 1) κ′ u8 .own (x γ′ zs) (vss .0))
+        (fsep (usize .own (r .place) (vss .1 .0)) (fsep (u16 .own (r .w) (vss .1 .1 .0)) (fsep (u16 .own (r .h) (vss .1 .1 .1 .0)) ftrue)))
 
-  abbrev Post : Val → SProp 𝓤
-  Post = walkOf 𝓤 H A (thin-ended X answerOf listOf) (stayed X answerOf listOf) (thin-clauses X answerOf listOf 𝓤) .post (((κ, (κ′, tt)), (q, (q′, tt)), bounds, a, vals), tt)
+    -- the thin function's arguments, and their machine values
+    abbrev a : RefT Writer × (X .Denot × Unit {0})
+    a = (record { ptr = (b, o); name = γ; now = h ys p }, (y, tt))
 
-  exits : (r : Written) (zs : List ℕ) → (r ≡ answerOf ys (p .place) (p .w) (p .h) y) × (zs ≡ listOf ys (p .place) (p .w) (p .h) y) → r .refusal < 2 ^ 8
-      → ent 𝓤 (⋆ 𝓤 H A (‵ (fobs γ (R .coded .code (h zs r))) ∷ ‵ (fbor κ (Body (mem R) b o γ)) ∷ ‵ (flft κ q) ∷ ‵ (flft κ′ q′) ∷ [])) (Post (vint w8 (r .refusal)))
-  exits r zs e refusal-fits =
-      qed W (‵ (fobs γ (R .coded .code (h zs r))) ∷ ‵ (fbor κ (Body (mem R) b o γ)) ∷ ‵ (flft κ q) ∷ ‵ (flft κ′ q′) ∷ []) ∵
-      suffices ! _ (ends-at 𝓤 H A (thin-ended X answerOf listOf) (stayed X answerOf listOf) (thin-clauses X answerOf listOf 𝓤) W
-      (((κ, (κ′, tt)), (q, (q′, tt)), bounds, a, vals), tt) (vint w8 (r .refusal)) (r .refusal) (h zs r, (X-last y, tt)) (tt, (tt, tt))) $
-      says ! ((λ i. e .0 i .refusal), (λ i. h (e .1 i) (e .0 i))) $
-      nothing ! $ move ! (4 ∷ 0 ∷ []) $ join ! $ move ! (3 ∷ 0 ∷ []) $ join ! $ frame ! $ feqI ! (List Val) (vptr b o ∷ []) (vptr b o ∷ []) refl $ fjoin3 ! $
-      nothing ! $ owned ! X (Is X) X-makes y _ y-is $ fjoin ! $
-      move ! (1 ∷ 0 ∷ []) $ fjoin ! $ owned ! u8 (Is u8) (uint-makes 𝓤 H A W w8) (r .refusal) _ (refl, refusal-fits) $ move ! (1 ∷ 0 ∷ []) $ done !
+    abbrev vals : List Val × (List Val × Unit {0})
+    vals = (vptr b o ∷ [], (v ∷ [], tt))
 
-  module _ (C : Calls 𝓤 H) (Λ : Loops 𝓤 H) (fm : FmC 𝓤 H (W .laws) C) (known : Triple 𝓤 (C callee) (Covered X answerOf listOf 𝓤 H A)) where
-    walk : ent 𝓤 (onEntry 𝓤 H A (thin-ended X answerOf listOf .signature) (κ, (κ′, tt)) (q, (q′, tt)) a vals) (WpFn 𝓤 H C Λ (thin ty callee) (vptr b o ∷ v ∷ []) Post)
-    walk =
-        qed W ((‵ (flft κ q) ⊛ ‵ (flft κ′ q′) ⊛ ‵ ftrue) ∷ ‵ (owns (MutRef (named 0) κ R ∷ X ∷ []) a vals) ∷ []) ∵ enter ! C Λ (thin ty callee)
-        (vptr b o ∷ v ∷ []) _ $
-        alloc1 ! (λ l₀. alloc1 !
-        (λ l₁. alloc1 ! (λ l₂. alloc1 ! (λ l₃. alloc1 ! (λ l₄. alloc1 ! (λ l₅. alloc1 ! (λ l₆. alloc1 ! (λ l₇. alloc1 ! (λ l₈. alloc1 ! (λ l₉. alloc0 ! $ params1 ! $
-        pass1 ! (init ! 16 refl (tt, tt)) $ pass1 ! (init ! 14 refl v-typed) $ pass0 ! $
-        -- open the borrow of the writer
-        move ! (21 ∷ []) $ fsplit ! $ fsplit3 ! $ drop ! $ move ! (23 ∷ []) $ split ! $ move ! (2 ∷ 3 ∷ 0 ∷ []) $
-        opens ! tt R {h = h ys p} b o
-        (λ vs. spelt ! R (Is R) (shows 𝓤 H A R) (LL.vals (T.the-type α) (T′.the-laws α)) (LL.tells (T.the-type α) (T′.the-laws α)) fullShare (h ys p) vs b o $
-        use1 W (‵ (fat fullShare (T′.mir erased) b o (mach p))) (W .laws .raw-at fullShare (T′.mir erased) b o (mach p)) $
-        move ! (1 ∷ []) $ peeks ! R (Is R) (shows 𝓤 H A R) (h ys p) (mach p ∷ []) (λ g. move ! (1 ∷ 0 ∷ []) $
-        -- bounds of its fields
-        let fields = LL.owed (T.the-type α) (T′.the-laws α) (h ys p) _ g in
-        let room : Room u8 (length ys) = fields .0 .0 .1 in
-        -- copy the list's count and pointer, the place, W and H; the context: the writer's cell, what it owns, the open borrow (3), the list's token, y's, then the locals from 9 down
-        assigns ! (of-opd ! (load ! (from ! (hop ! (look ! 23 refl) (fld ! refl (fld ! refl (stop !))))) (look-in ! 0 (sub ! 1 refl (sub ! 0 refl (whole !)))))) (from ! (stop !))
-        (init ! 17 refl (tt, record { fits = room .0 })) $
-        assigns ! (addr ! (from ! (hop ! (look ! 23 refl) (fld ! refl (fld ! refl (hop ! (look-in ! 0 (sub ! 0 refl (sub ! 0 refl (whole !)))) (stop !))))))) (from ! (stop !))
-        (init ! 15 refl (tt, tt)) $
-        assigns ! (agg ! (and-then ! (load ! (from ! (stop !)) (look ! 15 refl)) (and-then ! (load ! (from ! (stop !)) (look ! 17 refl)) (no-more !)))) (from ! (stop !))
-        (init ! 13 refl (tt, (tt, (record { fits = room .0 }, tt)))) $
-        assigns ! (of-opd ! (load ! (from ! (hop ! (look ! 23 refl) (fld ! refl (stop !)))) (look-in ! 0 (sub ! 1 refl (whole !))))) (from ! (stop !))
-        (init ! 11 refl (tt, record { fits = fields .1 .0 .1 })) $
-        assigns ! (of-opd ! (load ! (from ! (hop ! (look ! 23 refl) (fld ! refl (stop !)))) (look-in ! 0 (sub ! 2 refl (whole !))))) (from ! (stop !))
-        (init ! 9 refl (tt, record { fits = fields .1 .1 .0 .1 })) $
-        assigns ! (of-opd ! (load ! (from ! (hop ! (look ! 23 refl) (fld ! refl (stop !)))) (look-in ! 0 (sub ! 3 refl (whole !))))) (from ! (stop !))
-        (init ! 7 refl (tt, record { fits = fields .1 .1 .1 .0 .1 })) $
-        -- lend the list for the call, for the lifetime ν
-        move ! (1 ∷ []) $ use1 W (given (mach p ∷ [] ≡ mach p ∷ []) (‵ (all-own (T.the-type α .parts) (T′.the-laws α) (x γ′ ys, (p .place, (p .w, (p .h, tt)))))))
-        (own-open 𝓤 H A W (T.the-type α) (T′.the-laws α) (x γ′ ys, (p .place, (p .w, (p .h, tt)))) (mach p)) $ learn ! (λ _. fsplit ! $
-        move ! (6 ∷ []) $ split ! $ lft-new ! tt (λ ν. move ! (3 ∷ 1 ∷ []) $
-        use2 W (later (some (λ (δ : GName). ‵ (MutSlice (named 0) (ν ∷ []) u8 .own (x δ ys) (s ∷ [])) ⊛ ‵ (KeptList u8 κ′ (ν ∷ []) q′ γ′ b′ o′ δ ys))))
-        (lend-list u8 κ′ (ν ∷ []) q′ γ′ b′ o′ 𝓤 H A W (named 1) (named 0) ys) $ await ! tt $ pick ! (λ δ. split ! $
-        move ! (2 ∷ 0 ∷ []) $ use2 W (raw (Covered X answerOf listOf 𝓤 H A .pre (to-covered ν δ))) (goes (fields .1 .0 .1) (fields .1 .1 .0 .1) (fields .1 .1 .1 .0 .1) ν δ) $
-        calls-at ! fm (Covered X answerOf listOf 𝓤 H A) known (to-covered ν δ)
-        (and-then ! (load ! (from ! (stop !)) (look ! 15 refl))
-        (and-then ! (load ! (from ! (stop !)) (look ! 13 refl))
-        (and-then ! (load ! (from ! (stop !)) (look ! 11 refl))
-        (and-then ! (load ! (from ! (stop !)) (look ! 9 refl)) (and-then ! (load ! (from ! (stop !)) (look ! 23 refl)) (no-more !)))))) (λ w.
-        use1 W (later (some (λ (r : Written). ((‵ (flft (ν ∷ []) fullShare) ⊛ ‵ ftrue) ⊛ ‵ (P.the-row .own r (w ∷ []))) ⊛ raw
-        (ensured 𝓤 H A (covered-ended X answerOf listOf) (covered-clauses X answerOf listOf 𝓤 H A) (ν ∷ [], tt) (passed δ) tt r)))) (id⊢ 𝓤 _) $ await ! tt $ pick ! (λ r.
-        -- the call's answer r and the list zs that it left
-        split ! $ move ! (1 ∷ []) $
-        use1 W (some (λ (zs : Lasts (covered-ended X answerOf listOf) (ν ∷ [], tt) (passed δ)). ‵
-        (lasts (covered-ended X answerOf listOf) (ν ∷ [], tt) (passed δ) zs) ⊛ raw
-        (fact 𝓤 ((r ≡ answerOf ys (p .place) (p .w) (p .h) y) × (zs .0 ≡ listOf ys (p .place) (p .w) (p .h) y))))) (id⊢ 𝓤 _) $ pick ! (λ zs.
-        split ! $ move ! (1 ∷ []) $ heard ! ((r ≡ answerOf ys (p .place) (p .w) (p .h) y) × (zs .0 ≡ listOf ys (p .place) (p .w) (p .h) y)) (λ e. fsplit ! $ fsplit ! $
-        move ! (1 ∷ []) $ feqL ! (λ l.
-        move ! (2 ∷ []) $ split ! $ move ! (1 ∷ []) $ peeks ! P.the-row (Is P.the-row) (shows 𝓤 H A P.the-row) r (w ∷ []) (λ is.
-        let answer = LL.owed P.the-type P′.the-laws r _ is in
-        land ! (from ! (stop !)) (init ! 24 refl (LL.lawful P.the-type P′.the-laws 𝓤 H A W .typed r _ is .0)) $
-        rewrite ! 24 (λ (z : Val). ‵ (fat fullShare P′.mir l₃ 0 z)) (ap only (LL.tells P.the-type P′.the-laws r _ is)) refl $
-        -- end ν, and take the list back
-        move ! (1 ∷ []) $ split ! $ lft-end ! tt $ move ! (0 ∷ 5 ∷ 3 ∷ []) $
-        use3 W (later (‵ (MutSlice (named 1) κ′ u8 .own (x γ′ (zs .0)) (s ∷ [])) ⊛ ‵ (flft κ′ q′)))
-        (take-list u8 κ′ (ν ∷ []) q′ γ′ b′ o′ 𝓤 H A W (named 1) (named 0) ys δ (zs .0) room l) $ await ! tt $ split ! $
-        -- store the place, W and H; the writer's cell is now the eighth item, and the locals begin at the thirteenth
-        assigns ! (of-opd ! (load ! (from ! (fld ! refl (stop !))) (look-in ! 24 (sub ! 1 refl (whole !))))) (from ! (hop ! (look ! 28 refl) (fld ! refl (stop !))))
-        (store-in ! 7 (sub ! 1 refl (whole !)) (tt, record { fits = answer .1 .0 .1 })) $
-        assigns ! (of-opd ! (load ! (from ! (fld ! refl (stop !))) (look-in ! 24 (sub ! 2 refl (whole !))))) (from ! (hop ! (look ! 28 refl) (fld ! refl (stop !))))
-        (store-in ! 7 (sub ! 2 refl (whole !)) (tt, record { fits = answer .1 .1 .0 .1 })) $
-        assigns ! (of-opd ! (load ! (from ! (fld ! refl (stop !))) (look-in ! 24 (sub ! 3 refl (whole !))))) (from ! (hop ! (look ! 28 refl) (fld ! refl (stop !))))
-        (store-in ! 7 (sub ! 3 refl (whole !)) (tt, record { fits = answer .1 .1 .1 .0 .1 })) $
-        assigns ! (of-opd ! (load ! (from ! (fld ! refl (stop !))) (look-in ! 24 (sub ! 0 refl (whole !))))) (from ! (stop !)) (init ! 30 refl (tt, record { fits = answer .0 .1 })) $
-        -- put the writer together, close its borrow, and return
-        nothing ! $ owned ! u16 (Is u16) (uint-makes 𝓤 H A W w16) (r .h) _ (refl, answer .1 .1 .1 .0 .1) $ fjoin ! $
-        owned ! u16 (Is u16) (uint-makes 𝓤 H A W w16) (r .w) _ (refl, answer .1 .1 .0 .1) $ fjoin ! $
-        owned ! usize (Is usize) (uint-makes 𝓤 H A W w64) (r .place) _ (refl, answer .1 .0 .1) $ fjoin ! $ move ! (1 ∷ 0 ∷ []) $ fjoin ! $
-        use1 W (‵ (R .own (h (zs .0) r) (mach r ∷ [])))
-        (makes 𝓤 H A W (MutSlice (named 1) κ′ u8 ∷ usize ∷ u16 ∷ u16 ∷ []) (had r (zs .0))
-        (s ∷ [], (vint w64 (r .place) ∷ [], (vint w16 (r .w) ∷ [], (vint w16 (r .h) ∷ [], tt))))) $
-        move ! (7 ∷ []) $ use1 W (‵ (cellAt fullShare (R .mir) (mach r ∷ []) b o)) (W .laws .at-raw fullShare (T′.mir erased) b o (mach r)) $
-        move ! (0 ∷ 1 ∷ 8 ∷ 9 ∷ 10 ∷ []) $ closes ! tt R (h (zs .0) r) (mach r ∷ []) b o $
-        returns ! (look ! 28 refl) $ forget ! 10 refl $ forget ! 12 refl $ forget ! 14 refl $ forget ! 16 refl $ forget ! 18 refl $ forget ! 20 refl $ forget ! 22 refl $
-        forget ! 24 refl $ forget ! 26 refl $ forget ! 28 refl $
-        move ! (28 ∷ 29 ∷ []) $ free1 ! $ move ! (26 ∷ 27 ∷ []) $ free1 ! $ move ! (24 ∷ 25 ∷ []) $ free1 ! $ move ! (22 ∷ 23 ∷ []) $ free1 ! $
-        move ! (20 ∷ 21 ∷ []) $ free1 ! $ move ! (18 ∷ 19 ∷ []) $ free1 ! $ move ! (16 ∷ 17 ∷ []) $ free1 ! $ move ! (14 ∷ 15 ∷ []) $ free1 ! $
-        move ! (12 ∷ 13 ∷ []) $ free1 ! $ move ! (10 ∷ 11 ∷ []) $ free1 ! $ free0 ! $
-        keep ! (0 ∷ 1 ∷ 2 ∷ 3 ∷ []) $ by ! (exits r (zs .0) e (answer .0 .1)))))))))))))))))))))))
+    -- what the call's answer and the list that it left are
+    abbrev Told : Written → List ℕ → Type 0
+    Told r zs = (r ≡ answerOf ys (p .place) (p .w) (p .h) y) × (zs ≡ listOf ys (p .place) (p .w) (p .h) y)
 
--- ---- the contract is met, for a value that owns nothing; `val` is its machine value
-module _ (ty : Ty) (callee : Name) (X : RattleType) (answerOf : List ℕ → ℕ → ℕ → ℕ → X .Denot → Written) (listOf : List ℕ → ℕ → ℕ → ℕ → X .Denot → List ℕ)
-    (val : X .Denot → Val) (X-tells : Tells X (Is X) (λ y. val y ∷ [])) (X-last : (y : X .Denot) → Last (X .exit yes) y)
-    {M : Type 1} (𝓤 : URA M) (H : Heap 𝓤) (A : Atoms 𝓤) (W : Given 𝓤 H A) (X-makes : Makes 𝓤 H A X (Is X))
-    (X-typed : (y : X .Denot) → Is X y (val y ∷ []) → T (hasTy ty (val y)) × WT (val y)) (X-silent : Silent 𝓤 H A W 2 (plain (λ _. X)) yes) where
-  walks : (C : Calls 𝓤 H) (Λ : Loops 𝓤 H) → FmC 𝓤 H (W .laws) C → Triple 𝓤 (C callee) (Covered X answerOf listOf 𝓤 H A)
-      → Walks 𝓤 H A (thin-ended X answerOf listOf) (stayed X answerOf listOf) (WpFn 𝓤 H C Λ (thin ty callee)) (thin-clauses X answerOf listOf 𝓤)
-  walks C Λ fm known =
-      walked 𝓤 H A (thin-ended X answerOf listOf) (stayed X answerOf listOf) (thin-clauses X answerOf listOf 𝓤) (WpFn 𝓤 H C Λ (thin ty callee))
-      (λ κs. (ptr-vals, ((λ y. val y ∷ []), tt))) (λ κs. (mut-tells (named 0) (κs .0) (T.the-row (namedLft 2 1 tt κs)), (X-tells, tt)))
-      (λ κs qs bounds a g are. via 𝓤 _ (fst∗ 𝓤 _ (emp 𝓤))
-      (walk ty callee X answerOf listOf 𝓤 H A W X-makes X-last (κs .0) (κs .1 .0) bounds (qs .0) (qs .1 .0) (a .0 .ptr .0) (a .0 .ptr .1) (a .0 .name)
-      (a .0 .now .list .ptr .0) (a .0 .now .list .ptr .1) (a .0 .now .list .name) (a .0 .now .list .now) (record { refusal = 0; place = a .0 .now .place; w = a .0 .now .w; h = a .0 .now .h })
-      (a .1 .0) (val (a .1 .0)) (are .1 .0) (X-typed (a .1 .0) (are .1 .0)) C Λ fm known))
+    abbrev Post : Val → SProp 𝓤
+    Post = walkOf 𝓤 H A thin-ended stayed (thin-clauses 𝓤) .post (((κ, (κ′, tt)), (q, (q′, tt)), bounds, a, vals), tt)
 
-  pub thin-meets : (𝓣 : Tables 𝓤 H) → Triple 𝓤 (𝓣 .C callee) (Covered X answerOf listOf 𝓤 H A)
-      → Meets 𝓤 H A (thin-ended X answerOf listOf .signature) (WpFn 𝓤 H (𝓣 .C) (𝓣 .Λ) (thin ty callee))
-      (closing 𝓤 H A (thin-ended X answerOf listOf) (thin-clauses X answerOf listOf 𝓤))
-  thin-meets 𝓣 known =
-      walk-meets 𝓤 H A (thin-ended X answerOf listOf) (stayed X answerOf listOf) W (goes-ref 𝓤 H A W 2 0 tt WriterS, (goes-none 𝓤 H A W 2 (λ _. X) yes X-silent, tt))
-      (thin-clauses X answerOf listOf 𝓤)
-      (WpFn 𝓤 H (𝓣 .C) (𝓣 .Λ) (thin ty callee)) (WpFn-mono 𝓤 H (W .laws) 𝓣 (thin ty callee)) (walks (𝓣 .C) (𝓣 .Λ) (fmOf 𝓤 H (W .laws) 𝓣) known)
+    exits : (r : Written) (zs : List ℕ) → Told r zs → r .refusal < 2 ^ 8
+        → ent 𝓤 (⋆ 𝓤 H A (‵ (fobs γ (R .coded .code (h zs r))) ∷ ‵ (fbor κ (Body (mem R) b o γ)) ∷ ‵ (flft κ q) ∷ ‵ (flft κ′ q′) ∷ []))
+        (Post (vint w8 (r .refusal)))
+    exits r zs e refusal-fits =
+        qed W (‵ (fobs γ (R .coded .code (h zs r))) ∷ ‵ (fbor κ (Body (mem R) b o γ)) ∷ ‵ (flft κ q) ∷ ‵ (flft κ′ q′) ∷ []) ∵
+        suffices ! _ (ends-at 𝓤 H A thin-ended stayed (thin-clauses 𝓤) W (((κ, (κ′, tt)), (q, (q′, tt)), bounds, a, vals), tt) (vint w8 (r .refusal)) (r .refusal)
+        (h zs r, (X-last y, tt)) (tt, (tt, tt))) $ says ! ((λ i. e .0 i .refusal), (λ i. h (e .1 i) (e .0 i))) $
+        nothing ! $ move ! (4 ∷ 0 ∷ []) $ join ! $ move ! (3 ∷ 0 ∷ []) $ join ! $ frame ! $ feqI ! (List Val) (vptr b o ∷ []) (vptr b o ∷ []) refl $ fjoin3 ! $
+        nothing ! $ owned ! X (Is X) X-makes y _ y-is $ fjoin ! $
+        move ! (1 ∷ 0 ∷ []) $ fjoin ! $ owned ! u8 (Is u8) (uint-makes 𝓤 H A W w8) (r .refusal) _ (refl, refusal-fits) $ move ! (1 ∷ 0 ∷ []) $ done !
+
+    module _ (C : Calls 𝓤 H) (Λ : Loops 𝓤 H) (fm : FmC 𝓤 H (W .laws) C) (known : Triple 𝓤 (C callee) (Covered 𝓤 H A)) where
+      walk : ent 𝓤 (onEntry 𝓤 H A (thin-ended .signature) (κ, (κ′, tt)) (q, (q′, tt)) a vals) (WpFn 𝓤 H C Λ (thin ty callee) (vptr b o ∷ v ∷ []) Post)
+      walk =
+          qed W ((‵ (flft κ q) ⊛ ‵ (flft κ′ q′) ⊛ ‵ ftrue) ∷ ‵ (owns (MutRef (named 0) κ R ∷ X ∷ []) a vals) ∷ []) ∵ enter ! C Λ (thin ty callee)
+          (vptr b o ∷ v ∷ []) _ $
+          alloc1 ! (λ l₀. alloc1 !
+          (λ l₁. alloc1 ! (λ l₂. alloc1 ! (λ l₃. alloc1 ! (λ l₄. alloc1 ! (λ l₅. alloc1 ! (λ l₆. alloc1 ! (λ l₇. alloc1 ! (λ l₈. alloc1 ! (λ l₉. alloc0 ! $ params1 ! $
+          pass1 ! (init ! 16 refl (tt, tt)) $ pass1 ! (init ! 14 refl v-typed) $ pass0 ! $
+          -- open the borrow of the writer
+          move ! (21 ∷ []) $ fsplit ! $ fsplit3 ! $ drop ! $ move ! (23 ∷ []) $ split ! $ move ! (2 ∷ 3 ∷ 0 ∷ []) $
+          opens ! tt R {h = h ys p} b o
+          (λ vs. spelt ! R (Is R) (shows 𝓤 H A R) (LL.vals (T.the-type α) (T′.the-laws α)) (LL.tells (T.the-type α) (T′.the-laws α)) fullShare (h ys p) vs b o $
+          use1 W (‵ (fat fullShare (T′.mir erased) b o (mach p))) (W .laws .raw-at fullShare (T′.mir erased) b o (mach p)) $
+          move ! (1 ∷ []) $ peeks ! R (Is R) (shows 𝓤 H A R) (h ys p) (mach p ∷ []) (λ g. move ! (1 ∷ 0 ∷ []) $
+          -- bounds of its fields
+          let fields = LL.owed (T.the-type α) (T′.the-laws α) (h ys p) _ g in
+          let room : Room u8 (length ys) = fields .0 .0 .1 in
+          let place-fits = fields .1 .0 .1 in let w-fits = fields .1 .1 .0 .1 in let h-fits = fields .1 .1 .1 .0 .1 in
+          -- copy the list's count and pointer, the place, W and H; the context: the writer's cell, what it owns, the open borrow (3), the list's token, y's, then the locals from 9 down
+          assigns ! (of-opd ! (load ! (from ! (hop ! (look ! 23 refl) (fld ! refl (fld ! refl (stop !))))) (look-in ! 0 (sub ! 1 refl (sub ! 0 refl (whole !)))))) (from ! (stop !))
+          (init ! 17 refl (tt, record { fits = room .0 })) $
+          assigns ! (addr ! (from ! (hop ! (look ! 23 refl) (fld ! refl (fld ! refl (hop ! (look-in ! 0 (sub ! 0 refl (sub ! 0 refl (whole !)))) (stop !))))))) (from ! (stop !))
+          (init ! 15 refl (tt, tt)) $
+          assigns ! (agg ! (and-then ! (load ! (from ! (stop !)) (look ! 15 refl)) (and-then ! (load ! (from ! (stop !)) (look ! 17 refl)) (no-more !)))) (from ! (stop !))
+          (init ! 13 refl (tt, (tt, (record { fits = room .0 }, tt)))) $
+          assigns ! (of-opd ! (load ! (from ! (hop ! (look ! 23 refl) (fld ! refl (stop !)))) (look-in ! 0 (sub ! 1 refl (whole !))))) (from ! (stop !))
+          (init ! 11 refl (tt, record { fits = place-fits })) $
+          assigns ! (of-opd ! (load ! (from ! (hop ! (look ! 23 refl) (fld ! refl (stop !)))) (look-in ! 0 (sub ! 2 refl (whole !))))) (from ! (stop !))
+          (init ! 9 refl (tt, record { fits = w-fits })) $
+          assigns ! (of-opd ! (load ! (from ! (hop ! (look ! 23 refl) (fld ! refl (stop !)))) (look-in ! 0 (sub ! 3 refl (whole !))))) (from ! (stop !))
+          (init ! 7 refl (tt, record { fits = h-fits })) $
+          -- lend the list for the call, for the lifetime ν
+          move ! (1 ∷ []) $ use1 W (given (mach p ∷ [] ≡ mach p ∷ []) (‵ (all-own (T.the-type α .parts) (T′.the-laws α) (x γ′ ys, (p .place, (p .w, (p .h, tt)))))))
+          (own-open 𝓤 H A W (T.the-type α) (T′.the-laws α) (x γ′ ys, (p .place, (p .w, (p .h, tt)))) (mach p)) $ learn ! (λ _. fsplit ! $
+          move ! (6 ∷ []) $ split ! $ lft-new ! tt (λ ν. move ! (3 ∷ 1 ∷ []) $
+          use2 W (later (some (λ (δ : GName). ‵ (MutSlice (named 0) (ν ∷ []) u8 .own (x δ ys) (s ∷ [])) ⊛ ‵ (KeptList u8 κ′ (ν ∷ []) q′ γ′ b′ o′ δ ys))))
+          (lend-list u8 κ′ (ν ∷ []) q′ γ′ b′ o′ 𝓤 H A W (named 1) (named 0) ys) $ await ! tt $ pick ! (λ δ. split ! $
+          move ! (2 ∷ 0 ∷ []) $ use2 W (raw (Covered 𝓤 H A .pre (to-covered ν δ))) (goes place-fits w-fits h-fits ν δ) $
+          calls-at ! fm (Covered 𝓤 H A) known (to-covered ν δ)
+          (and-then ! (load ! (from ! (stop !)) (look ! 15 refl))
+          (and-then ! (load ! (from ! (stop !)) (look ! 13 refl))
+          (and-then ! (load ! (from ! (stop !)) (look ! 11 refl))
+          (and-then ! (load ! (from ! (stop !)) (look ! 9 refl)) (and-then ! (load ! (from ! (stop !)) (look ! 23 refl)) (no-more !)))))) (λ w.
+          use1 W (later (some (λ (r : Written). ((‵ (flft (ν ∷ []) fullShare) ⊛ ‵ ftrue) ⊛ ‵ (P.the-row .own r (w ∷ []))) ⊛ raw
+          (ensured 𝓤 H A covered-ended (covered-clauses 𝓤 H A) (ν ∷ [], tt) (passed δ) tt r)))) (id⊢ 𝓤 _) $ await ! tt $ pick ! (λ r.
+          -- the call's answer r and the list zs that it left
+          split ! $ move ! (1 ∷ []) $
+          use1 W (some (λ (zs : Lasts covered-ended (ν ∷ [], tt) (passed δ)). ‵ (lasts covered-ended (ν ∷ [], tt) (passed δ) zs) ⊛ raw (fact 𝓤 (Told r (zs .0)))))
+          (id⊢ 𝓤 _) $ pick ! (λ zs.
+          split ! $ move ! (1 ∷ []) $ heard ! (Told r (zs .0)) (λ e. fsplit ! $ fsplit ! $ move ! (1 ∷ []) $ feqL ! (λ l.
+          move ! (2 ∷ []) $ split ! $ move ! (1 ∷ []) $ peeks ! P.the-row (Is P.the-row) (shows 𝓤 H A P.the-row) r (w ∷ []) (λ is.
+          let answer = LL.owed P.the-type P′.the-laws r _ is in
+          let new-place = answer .1 .0 .1 in let new-w = answer .1 .1 .0 .1 in let new-h = answer .1 .1 .1 .0 .1 in
+          land ! (from ! (stop !)) (init ! 24 refl (LL.lawful P.the-type P′.the-laws 𝓤 H A W .typed r _ is .0)) $
+          rewrite ! 24 (λ (z : Val). ‵ (fat fullShare P′.mir l₃ 0 z)) (ap only (LL.tells P.the-type P′.the-laws r _ is)) refl $
+          -- end ν, and take the list back
+          move ! (1 ∷ []) $ split ! $ lft-end ! tt $ move ! (0 ∷ 5 ∷ 3 ∷ []) $
+          use3 W (later (‵ (MutSlice (named 1) κ′ u8 .own (x γ′ (zs .0)) (s ∷ [])) ⊛ ‵ (flft κ′ q′)))
+          (take-list u8 κ′ (ν ∷ []) q′ γ′ b′ o′ 𝓤 H A W (named 1) (named 0) ys δ (zs .0) room l) $ await ! tt $ split ! $
+          -- store the place, W and H; the writer's cell is now the eighth item, and the locals begin at the thirteenth
+          assigns ! (of-opd ! (load ! (from ! (fld ! refl (stop !))) (look-in ! 24 (sub ! 1 refl (whole !))))) (from ! (hop ! (look ! 28 refl) (fld ! refl (stop !))))
+          (store-in ! 7 (sub ! 1 refl (whole !)) (tt, record { fits = new-place })) $
+          assigns ! (of-opd ! (load ! (from ! (fld ! refl (stop !))) (look-in ! 24 (sub ! 2 refl (whole !))))) (from ! (hop ! (look ! 28 refl) (fld ! refl (stop !))))
+          (store-in ! 7 (sub ! 2 refl (whole !)) (tt, record { fits = new-w })) $
+          assigns ! (of-opd ! (load ! (from ! (fld ! refl (stop !))) (look-in ! 24 (sub ! 3 refl (whole !))))) (from ! (hop ! (look ! 28 refl) (fld ! refl (stop !))))
+          (store-in ! 7 (sub ! 3 refl (whole !)) (tt, record { fits = new-h })) $
+          assigns ! (of-opd ! (load ! (from ! (fld ! refl (stop !))) (look-in ! 24 (sub ! 0 refl (whole !))))) (from ! (stop !)) (init ! 30 refl (tt, record { fits = answer .0 .1 })) $
+          -- put the writer together, close its borrow, and return
+          nothing ! $ owned ! u16 (Is u16) m16 (r .h) _ (refl, new-h) $ fjoin ! $ owned ! u16 (Is u16) m16 (r .w) _ (refl, new-w) $ fjoin ! $
+          owned ! usize (Is usize) m64 (r .place) _ (refl, new-place) $ fjoin ! $ move ! (1 ∷ 0 ∷ []) $ fjoin ! $
+          use1 W (‵ (R .own (h (zs .0) r) (mach r ∷ [])))
+          (makes 𝓤 H A W (MutSlice (named 1) κ′ u8 ∷ usize ∷ u16 ∷ u16 ∷ []) (had r (zs .0))
+          (s ∷ [], (vint w64 (r .place) ∷ [], (vint w16 (r .w) ∷ [], (vint w16 (r .h) ∷ [], tt))))) $
+          move ! (7 ∷ []) $ use1 W (‵ (cellAt fullShare (R .mir) (mach r ∷ []) b o)) (W .laws .at-raw fullShare (T′.mir erased) b o (mach r)) $
+          move ! (0 ∷ 1 ∷ 8 ∷ 9 ∷ 10 ∷ []) $ closes ! tt R (h (zs .0) r) (mach r ∷ []) b o $
+          returns ! (look ! 28 refl) $ forget ! 10 refl $ forget ! 12 refl $ forget ! 14 refl $ forget ! 16 refl $ forget ! 18 refl $ forget ! 20 refl $ forget ! 22 refl $
+          forget ! 24 refl $ forget ! 26 refl $ forget ! 28 refl $
+          move ! (28 ∷ 29 ∷ []) $ free1 ! $ move ! (26 ∷ 27 ∷ []) $ free1 ! $ move ! (24 ∷ 25 ∷ []) $ free1 ! $ move ! (22 ∷ 23 ∷ []) $ free1 ! $
+          move ! (20 ∷ 21 ∷ []) $ free1 ! $ move ! (18 ∷ 19 ∷ []) $ free1 ! $ move ! (16 ∷ 17 ∷ []) $ free1 ! $ move ! (14 ∷ 15 ∷ []) $ free1 ! $
+          move ! (12 ∷ 13 ∷ []) $ free1 ! $ move ! (10 ∷ 11 ∷ []) $ free1 ! $ free0 ! $
+          keep ! (0 ∷ 1 ∷ 2 ∷ 3 ∷ []) $ by ! (exits r (zs .0) e (answer .0 .1)))))))))))))))))))))))
+
+  -- ---- the contract is met, for a value that owns nothing; `val` is its machine value
+  module _ (ty : Ty) (callee : Name)
+      (val : X .Denot → Val) (X-tells : Tells X (Is X) (λ y. val y ∷ [])) (X-last : (y : X .Denot) → Last (X .exit yes) y)
+      {M : Type 1} (𝓤 : URA M) (H : Heap 𝓤) (A : Atoms 𝓤) (W : Given 𝓤 H A) (X-makes : Makes 𝓤 H A X (Is X))
+      (X-typed : (y : X .Denot) → Is X y (val y ∷ []) → T (hasTy ty (val y)) × WT (val y)) (X-silent : Silent 𝓤 H A W 2 (plain (λ _. X)) yes) where
+    walks : (C : Calls 𝓤 H) (Λ : Loops 𝓤 H) → FmC 𝓤 H (W .laws) C → Triple 𝓤 (C callee) (Covered 𝓤 H A)
+        → Walks 𝓤 H A thin-ended stayed (WpFn 𝓤 H C Λ (thin ty callee)) (thin-clauses 𝓤)
+    walks C Λ fm known =
+        walked 𝓤 H A thin-ended stayed (thin-clauses 𝓤) (WpFn 𝓤 H C Λ (thin ty callee))
+        (λ κs. (ptr-vals, ((λ y. val y ∷ []), tt))) (λ κs. (mut-tells (named 0) (κs .0) (T.the-row (namedLft 2 1 tt κs)), (X-tells, tt)))
+        (λ κs qs bounds a g are. via 𝓤 _ (fst∗ 𝓤 _ (emp 𝓤))
+        (walk ty callee 𝓤 H A W X-makes X-last (κs .0) (κs .1 .0) bounds (qs .0) (qs .1 .0) (a .0 .ptr .0) (a .0 .ptr .1) (a .0 .name)
+        (a .0 .now .list .ptr .0) (a .0 .now .list .ptr .1) (a .0 .now .list .name) (a .0 .now .list .now) (record { refusal = 0; place = a .0 .now .place; w = a .0 .now .w; h = a .0 .now .h })
+        (a .1 .0) (val (a .1 .0)) (are .1 .0) (X-typed (a .1 .0) (are .1 .0)) C Λ fm known))
+
+    pub thin-meets : (𝓣 : Tables 𝓤 H) → Triple 𝓤 (𝓣 .C callee) (Covered 𝓤 H A)
+        → Meets 𝓤 H A (thin-ended .signature) (WpFn 𝓤 H (𝓣 .C) (𝓣 .Λ) (thin ty callee)) (closing 𝓤 H A thin-ended (thin-clauses 𝓤))
+    thin-meets 𝓣 known =
+        walk-meets 𝓤 H A thin-ended stayed W (goes-ref 𝓤 H A W 2 0 tt WriterS, (goes-none 𝓤 H A W 2 (λ _. X) yes X-silent, tt)) (thin-clauses 𝓤)
+        (WpFn 𝓤 H (𝓣 .C) (𝓣 .Λ) (thin ty callee)) (WpFn-mono 𝓤 H (W .laws) 𝓣 (thin ty callee)) (walks (𝓣 .C) (𝓣 .Λ) (fmOf 𝓤 H (W .laws) 𝓣) known)

@@ -18,7 +18,7 @@ use ghost.Atoms.{Atoms, sem}
 use contract.BorrowLft.{meet-⊑-right}
 use contract.Monad.{Fun, fact}
 use contract.Running.{givenOf, tables, tablesOf}
-use types.Kit.{Given, ‵, raw, given, some, later, _⊛_, _$_, _∵_, !, qed, by, move, keep, use1, use2, use3, split, join, pick, learn, rewrite, fsplit, fjoin, suffices, frame, await, done}
+use types.Kit.{Given, Item, ‵, raw, given, some, later, _⊛_, _$_, _∵_, !, qed, by, move, keep, use1, use2, use3, split, join, pick, learn, rewrite, fsplit, fjoin, suffices, frame, await, done}
 use types.Run.{look, init, forget, stop, hop, fld, from, load, lit, addr, of-opd, and-then, no-more, assigns, land, returns, enter, alloc1, alloc0, params1, pass1, pass0, free1, free0}
 use types.Part.{agg, whole, sub, look-in}
 use sound.WpLaws.{FmC, fmOf, WpFn-mono}
@@ -97,6 +97,20 @@ module _ {M : Type 1} (𝓤 : URA M) (H : Heap 𝓤) (A : Atoms 𝓤) (W : Given
   abbrev R : RattleType
   R = T.the-row α
 
+  -- a writer's values and its cell
+  abbrev fields : Writer → List Val
+  fields = LL.vals (T.the-type α) (T′.the-laws α)
+
+  abbrev cell : Writer → Val
+  cell = LL.val (T.the-type α) (T′.the-laws α)
+
+  -- the two contracts
+  abbrev HC : Contract 𝓤
+  HC = HeaderC 𝓤 H A at-mem run
+
+  abbrev RC : Contract 𝓤
+  RC = RecordC 𝓤 H A at-mem run
+
   abbrev x : List ℕ → RefT (List ℕ)
   x l = record { ptr = (b, o); name = γ; now = l }
 
@@ -115,6 +129,9 @@ module _ {M : Type 1} (𝓤 : URA M) (H : Heap 𝓤) (A : Atoms 𝓤) (W : Given
 
   abbrev zs : List ℕ
   zs = startedList ys header rec
+
+  abbrev parts : RefT (List ℕ) × (ℕ × (ℕ × (ℕ × Unit {0})))
+  parts = (x zs, (h₂ .place, (h₂ .w, (h₂ .h, tt))))
 
   abbrev mach₀ : Val
   mach₀ = vstruct (vcons s (vcons (vint w64 0) (vcons (vint w16 0) (vcons (vint w16 0) vnil))))
@@ -144,8 +161,19 @@ module _ {M : Type 1} (𝓤 : URA M) (H : Heap 𝓤) (A : Atoms 𝓤) (W : Given
   abbrev toks : ℕ → SProp 𝓤
   toks ν = sep 𝓤 (A .lft (ν ∷ κ) (PosShare·right q)) (sep 𝓤 (A .lft κ (PosShare·left q)) (sem 𝓤 H A ftrue))
 
+  -- the writer h lent from the local at l for the lifetime ν
+  abbrev Out : ℕ → Writer → ℕ → GName → Item 𝓤
+  Out l h ν δ = ‵ (MutRef (named 0) (ν ∷ κ) R .own (lent l δ h) (vptr l 0 ∷ [])) ⊛ Tokens 𝓤 H A W R κ q l ν ⊛ KeptLocal 𝓤 H A W R κ q l ν δ
+
+  -- what the two calls tell of their answers and of the writer that they leave
+  abbrev HeaderTold : ℕ → Writer → Type 0
+  HeaderTold r h = (r ≡ headerFirst ys header .refusal) × (h ≡ h₁)
+
+  abbrev RecordTold : ℕ → Writer → Type 0
+  RecordTold t h = (t ≡ recordSecond ys header rec .refusal) × (h ≡ h₂)
+
   -- each call: the values at which the callee's triple is used, and its precondition from what is lent
-  abbrev to-header : ℕ → ℕ → GName → HeaderC 𝓤 H A at-mem run .Ghost
+  abbrev to-header : ℕ → ℕ → GName → HC .Ghost
   to-header l ν δ = (
     (
       (ν ∷ κ, (κ, tt)),
@@ -157,18 +185,16 @@ module _ {M : Type 1} (𝓤 : URA M) (H : Heap 𝓤) (A : Atoms 𝓤) (W : Given
     tt,
   )
 
-  goes-header : (l ν : ℕ) (δ : GName) → ent 𝓤 (sep 𝓤 (toks ν) (sem 𝓤 H A (MutRef (named 0) (ν ∷ κ) R .own (lent l δ h₀) (vptr l 0 ∷ []))))
-      (HeaderC 𝓤 H A at-mem run .pre (to-header l ν δ))
+  goes-header : (l ν : ℕ) (δ : GName) → ent 𝓤 (sep 𝓤 (toks ν) (sem 𝓤 H A (MutRef (named 0) (ν ∷ κ) R .own (lent l δ h₀) (vptr l 0 ∷ [])))) (HC .pre (to-header l ν δ))
   goes-header l ν δ =
       qed W (Tokens 𝓤 H A W R κ q l ν ∷ ‵ (MutRef (named 0) (ν ∷ κ) R .own (lent l δ h₀) (vptr l 0 ∷ [])) ∷ []) ∵
       nothing ! $ owned ! HE.the-row (Is HE.the-row) (LL.makes HE.the-type HE′.the-plain 𝓤 H A) header _ header-is $ fjoin ! $
       move ! (2 ∷ 0 ∷ []) $ fjoin ! $ move ! (1 ∷ 0 ∷ []) $ join ! $ frame ! $ done !
 
-  abbrev to-record : ℕ → ℕ → GName → RecordC 𝓤 H A at-mem run .Ghost
+  abbrev to-record : ℕ → ℕ → GName → RC .Ghost
   to-record l ν δ = (((ν ∷ κ, (κ, tt)), (PosShare·right q, (PosShare·left q, tt)), (meet-⊑-right (ν ∷ []) κ, tt), (lent l δ h₁, (rec, tt)), (vptr l 0 ∷ [], (u ∷ [], tt))), tt)
 
-  goes-record : (l ν : ℕ) (δ : GName) → ent 𝓤 (sep 𝓤 (toks ν) (sem 𝓤 H A (MutRef (named 0) (ν ∷ κ) R .own (lent l δ h₁) (vptr l 0 ∷ []))))
-      (RecordC 𝓤 H A at-mem run .pre (to-record l ν δ))
+  goes-record : (l ν : ℕ) (δ : GName) → ent 𝓤 (sep 𝓤 (toks ν) (sem 𝓤 H A (MutRef (named 0) (ν ∷ κ) R .own (lent l δ h₁) (vptr l 0 ∷ [])))) (RC .pre (to-record l ν δ))
   goes-record l ν δ =
       qed W (Tokens 𝓤 H A W R κ q l ν ∷ ‵ (MutRef (named 0) (ν ∷ κ) R .own (lent l δ h₁) (vptr l 0 ∷ [])) ∷ []) ∵
       nothing ! $ owned ! E.the-row (Is E.the-row) (EL.makes E.the-type E′.the-plain 𝓤 H A) rec _ rec-is $ fjoin ! $ move ! (2 ∷ 0 ∷ []) $ fjoin ! $ move ! (1 ∷ 0 ∷ []) $
@@ -199,8 +225,8 @@ module _ {M : Type 1} (𝓤 : URA M) (H : Heap 𝓤) (A : Atoms 𝓤) (W : Given
   abbrev had : List Val × (List Val × (List Val × (List Val × Unit {0}))) → Fml
   had vss = fsep (MutSlice (named 1) κ u8 .own (x ys) (vss .0)) (fsep (usize .own 0 (vss .1 .0)) (fsep (u16 .own 0 (vss .1 .1 .0)) (fsep (u16 .own 0 (vss .1 .1 .1 .0)) ftrue)))
 
-  module _ (C : Calls 𝓤 H) (Λ : Loops 𝓤 H) (fm : FmC 𝓤 H (W .laws) C) (known-header : Triple 𝓤 (C #writer·write-header) (HeaderC 𝓤 H A at-mem run))
-      (known-record : Triple 𝓤 (C #writer·write-record) (RecordC 𝓤 H A at-mem run)) where
+  module _ (C : Calls 𝓤 H) (Λ : Loops 𝓤 H) (fm : FmC 𝓤 H (W .laws) C) (known-header : Triple 𝓤 (C #writer·write-header) (HC))
+      (known-record : Triple 𝓤 (C #writer·write-record) (RC)) where
     walk : Room u8 (length ys) → ent 𝓤 (onEntry 𝓤 H A start-list.signature (κ, tt) (q, tt) a vals) (WpFn 𝓤 H C Λ code.function (s ∷ d ∷ u ∷ []) Post)
     walk room =
         qed W ((‵ (flft κ q) ⊛ ‵ ftrue) ∷ ‵ (owns (MutSlice (named 0) κ u8 ∷ HE.the-row ∷ E.the-row ∷ []) a vals) ∷ []) ∵ enter ! C Λ code.function (s ∷ d ∷ u ∷ []) _ $
@@ -225,61 +251,50 @@ module _ {M : Type 1} (𝓤 : URA M) (H : Heap 𝓤) (A : Atoms 𝓤) (W : Given
         move ! (16 ∷ []) $ use1 W (‵ (cellAt fullShare (R .mir) (mach₀ ∷ []) l₄ 0)) (W .laws .at-raw fullShare (T′.mir erased) l₄ 0 mach₀) $
         use2 W (‵ (mem R .lies h₀ l₄ 0)) (into-local 𝓤 H A W R l₄ h₀ (mach₀ ∷ [])) $
         move ! (25 ∷ []) $ split ! $ move ! (2 ∷ 0 ∷ []) $
-        use2 W (later (some (λ (ν : ℕ). some
-        (λ (δ : GName). ‵ (MutRef (named 0) (ν ∷ κ) R .own (lent l₄ δ h₀)
-        (vptr l₄ 0 ∷ [])) ⊛ Tokens 𝓤 H A W R κ q l₄ ν ⊛ KeptLocal 𝓤 H A W R κ q l₄ ν δ)))) (lend-local 𝓤 H A W R κ q l₄ (named 0) h₀) $
-        await ! tt $ pick ! (λ ν. pick ! (λ δ. split ! $ move ! (1 ∷ []) $ split ! $
-        move ! (0 ∷ 2 ∷ []) $ use2 W (raw (HeaderC 𝓤 H A at-mem run .pre (to-header l₄ ν δ))) (goes-header l₄ ν δ) $
-        calls-at ! fm (HeaderC 𝓤 H A at-mem run) known-header (to-header l₄ ν δ)
-        (and-then ! (load ! (from ! (stop !)) (look ! 8 refl)) (and-then ! (load ! (from ! (stop !)) (look ! 21 refl)) (no-more !))) (λ w.
+        use2 W (later (some (λ (ν : ℕ). some (λ (δ : GName). Out l₄ h₀ ν δ)))) (lend-local 𝓤 H A W R κ q l₄ (named 0) h₀) $ await ! tt $
+        pick ! (λ ν. pick ! (λ δ. split ! $ move ! (1 ∷ []) $ split ! $
+        move ! (0 ∷ 2 ∷ []) $ use2 W (raw (HC .pre (to-header l₄ ν δ))) (goes-header l₄ ν δ) $
+        calls-at ! fm (HC) known-header (to-header l₄ ν δ) (and-then ! (load ! (from ! (stop !)) (look ! 8 refl)) (and-then ! (load ! (from ! (stop !)) (look ! 21 refl)) (no-more !))) (λ w.
         use1 W (later (some (λ (r : ℕ). (Tokens 𝓤 H A W R κ q l₄ ν ⊛ ‵ (u8 .own r (w ∷ []))) ⊛ raw
         (ensured 𝓤 H A write-header.ended (write-header.clauses 𝓤 H A at-mem run) (ν ∷ κ, (κ, tt)) (lent l₄ δ h₀, (header, tt)) tt r)))) (id⊢ 𝓤 _) $
         await ! tt $ pick ! (λ r.
         split ! $ move ! (1 ∷ []) $
         use1 W (some (λ (ws : Writer × (Unit {0} × Unit {0})). ‵ (lasts write-header.ended (ν ∷ κ, (κ, tt)) (lent l₄ δ h₀, (header, tt)) ws) ⊛ raw
-        (fact 𝓤 ((r ≡ headerFirst ys header .refusal) × (ws .0 ≡ h₁))))) (id⊢ 𝓤 _) $ pick ! (λ ws.
-        split ! $ move ! (1 ∷ []) $ heard ! ((r ≡ headerFirst ys header .refusal) × (ws .0 ≡ h₁)) (λ e. fsplit ! $
-        rewrite ! 0 (λ (z : Writer). ‵ (fres δ (R .coded .code z))) (e .1) refl $
+        (fact 𝓤 (HeaderTold r (ws .0))))) (id⊢ 𝓤 _) $ pick ! (λ ws.
+        split ! $ move ! (1 ∷ []) $ heard ! (HeaderTold r (ws .0)) (λ e. fsplit ! $ rewrite ! 0 (λ (z : Writer). ‵ (fres δ (R .coded .code z))) (e .1) refl $
         move ! (2 ∷ []) $ split ! $ move ! (1 ∷ []) $ peeks ! u8 (Is u8) (shows 𝓤 H A u8) r (w ∷ []) (λ is.
         land ! (from ! (stop !)) (init ! 19 refl (uint-lawful 𝓤 H A W w8 .typed r _ is .0)) $ rewrite ! 19 (λ (z : Val). ‵ (fat fullShare (tyInt w8) l₅ 0 z)) (ap only (is .0)) refl $
         -- take it back, and lend it for the record
         move ! (1 ∷ 4 ∷ 2 ∷ []) $ use3 W (later (‵ (mem R .lies h₁ l₄ 0) ⊛ ‵ (flft κ q))) (take-local 𝓤 H A W R κ q l₄ ν δ h₁) $ await ! tt $ split ! $
         assigns ! (addr ! (from ! (stop !))) (from ! (stop !)) (init ! 8 refl (tt, tt)) $
-        use2 W (later (some (λ (ν : ℕ). some
-        (λ (δ : GName). ‵ (MutRef (named 0) (ν ∷ κ) R .own (lent l₄ δ h₁)
-        (vptr l₄ 0 ∷ [])) ⊛ Tokens 𝓤 H A W R κ q l₄ ν ⊛ KeptLocal 𝓤 H A W R κ q l₄ ν δ)))) (lend-local 𝓤 H A W R κ q l₄ (named 0) h₁) $
-        await ! tt $ pick ! (λ ν′. pick ! (λ δ′. split ! $ move ! (1 ∷ []) $ split ! $
-        move ! (0 ∷ 2 ∷ []) $ use2 W (raw (RecordC 𝓤 H A at-mem run .pre (to-record l₄ ν′ δ′))) (goes-record l₄ ν′ δ′) $
-        calls-at ! fm (RecordC 𝓤 H A at-mem run) known-record (to-record l₄ ν′ δ′)
+        use2 W (later (some (λ (ν : ℕ). some (λ (δ : GName). Out l₄ h₁ ν δ)))) (lend-local 𝓤 H A W R κ q l₄ (named 0) h₁) $ await ! tt $
+        pick ! (λ ν′. pick ! (λ δ′. split ! $ move ! (1 ∷ []) $ split ! $
+        move ! (0 ∷ 2 ∷ []) $ use2 W (raw (RC .pre (to-record l₄ ν′ δ′))) (goes-record l₄ ν′ δ′) $
+        calls-at ! fm (RC) known-record (to-record l₄ ν′ δ′)
         (and-then ! (load ! (from ! (stop !)) (look ! 8 refl)) (and-then ! (load ! (from ! (stop !)) (look ! 21 refl)) (no-more !))) (λ w′.
         use1 W (later (some (λ (t : ℕ). (Tokens 𝓤 H A W R κ q l₄ ν′ ⊛ ‵ (u8 .own t (w′ ∷ []))) ⊛ raw
         (ensured 𝓤 H A write-record.ended (write-record.clauses 𝓤 H A at-mem run) (ν′ ∷ κ, (κ, tt)) (lent l₄ δ′ h₁, (rec, tt)) tt t)))) (id⊢ 𝓤 _) $
         await ! tt $ pick ! (λ t.
         split ! $ move ! (1 ∷ []) $
         use1 W (some (λ (ws : Writer × (Unit {0} × Unit {0})). ‵ (lasts write-record.ended (ν′ ∷ κ, (κ, tt)) (lent l₄ δ′ h₁, (rec, tt)) ws) ⊛ raw
-        (fact 𝓤 ((t ≡ recordSecond ys header rec .refusal) × (ws .0 ≡ h₂))))) (id⊢ 𝓤 _) $ pick ! (λ ws′.
-        split ! $ move ! (1 ∷ []) $ heard ! ((t ≡ recordSecond ys header rec .refusal) × (ws′ .0 ≡ h₂)) (λ f. fsplit ! $
-        rewrite ! 0 (λ (z : Writer). ‵ (fres δ′ (R .coded .code z))) (f .1) refl $
+        (fact 𝓤 (RecordTold t (ws .0))))) (id⊢ 𝓤 _) $ pick ! (λ ws′.
+        split ! $ move ! (1 ∷ []) $ heard ! (RecordTold t (ws′ .0)) (λ f. fsplit ! $ rewrite ! 0 (λ (z : Writer). ‵ (fres δ′ (R .coded .code z))) (f .1) refl $
         move ! (2 ∷ []) $ split ! $ move ! (1 ∷ []) $ peeks ! u8 (Is u8) (shows 𝓤 H A u8) t (w′ ∷ []) (λ is′.
         land ! (from ! (stop !)) (init ! 19 refl (uint-lawful 𝓤 H A W w8 .typed t _ is′ .0)) $ rewrite ! 19 (λ (z : Val). ‵ (fat fullShare (tyInt w8) l₆ 0 z)) (ap only (is′ .0)) refl $
         -- take it back, and read its place
         move ! (1 ∷ 4 ∷ 2 ∷ []) $ use3 W (later (‵ (mem R .lies h₂ l₄ 0) ⊛ ‵ (flft κ q))) (take-local 𝓤 H A W R κ q l₄ ν′ δ′ h₂) $ await ! tt $ split ! $
-        use1 W (‵ (cellAt fullShare (R .mir) (LL.vals (T.the-type α) (T′.the-laws α) h₂) l₄ 0) ⊛ ‵ (R .own h₂ (LL.vals (T.the-type α) (T′.the-laws α) h₂)))
-        (out-of-local 𝓤 H A W R l₄ (LL.vals (T.the-type α) (T′.the-laws α)) (LL.tells (T.the-type α) (T′.the-laws α)) h₂) $ split ! $
-        use1 W (‵ (fat fullShare (T′.mir erased) l₄ 0 (LL.val (T.the-type α) (T′.the-laws α) h₂)))
-        (W .laws .raw-at fullShare (T′.mir erased) l₄ 0 (LL.val (T.the-type α) (T′.the-laws α) h₂)) $
-        move ! (1 ∷ []) $ peeks ! R (Is R) (shows 𝓤 H A R) h₂ (LL.vals (T.the-type α) (T′.the-laws α) h₂) (λ g. move ! (1 ∷ 0 ∷ []) $
+        use1 W (‵ (cellAt fullShare (R .mir) (fields h₂) l₄ 0) ⊛ ‵ (R .own h₂ (fields h₂)))
+        (out-of-local 𝓤 H A W R l₄ fields (LL.tells (T.the-type α) (T′.the-laws α)) h₂) $ split ! $
+        use1 W (‵ (fat fullShare (T′.mir erased) l₄ 0 (cell h₂))) (W .laws .raw-at fullShare (T′.mir erased) l₄ 0 (cell h₂)) $
+        move ! (1 ∷ []) $ peeks ! R (Is R) (shows 𝓤 H A R) h₂ (fields h₂) (λ g. move ! (1 ∷ 0 ∷ []) $
         let place-fits : h₂ .place < 2 ^ 64 = LL.owed (T.the-type α) (T′.the-laws α) h₂ _ g .1 .0 .1 in
         assigns ! (of-opd ! (load ! (from ! (fld ! refl (stop !))) (look-in ! 0 (sub ! 1 refl (whole !))))) (from ! (stop !)) (init ! 9 refl (tt, record { fits = place-fits })) $
         assigns ! (agg ! (and-then ! (load ! (from ! (stop !)) (look ! 21 refl))
         (and-then ! (load ! (from ! (stop !)) (look ! 19 refl)) (and-then ! (load ! (from ! (stop !)) (look ! 9 refl)) (no-more !))))) (from ! (stop !))
         (init ! 30 refl (tt, (record { fits = is .1 }, (record { fits = is′ .1 }, (record { fits = place-fits }, tt))))) $
         -- take the list out of it, and return
-        move ! (1 ∷ []) $ use1 W
-        (given (LL.vals (T.the-type α) (T′.the-laws α) h₂ ≡ LL.vals (T.the-type α) (T′.the-laws α) h₂)
-        (‵ (all-own (T.the-type α .parts) (T′.the-laws α) (x zs, (h₂ .place, (h₂ .w, (h₂ .h, tt)))))))
-        (own-open 𝓤 H A W (T.the-type α) (T′.the-laws α) (x zs, (h₂ .place, (h₂ .w, (h₂ .h, tt)))) (LL.val (T.the-type α) (T′.the-laws α) h₂)) $
-        learn ! (λ _. fsplit ! $
+        move ! (1 ∷ []) $ use1 W (given (fields h₂ ≡ fields h₂) (‵ (all-own (T.the-type α .parts) (T′.the-laws α) parts)))
+        (own-open 𝓤 H A W (T.the-type α) (T′.the-laws α) parts (cell h₂)) $ learn ! (λ _. fsplit ! $
         rewrite ! 0 (λ (m : ℕ). ‵ (MutSlice (named 0) κ u8 .own (x zs) (sliceVal (b, o) m ∷ []))) (started-length ys header rec) refl $
         returns ! (look ! 31 refl) $ forget ! 2 refl $ forget ! 10 refl $ forget ! 12 refl $ forget ! 14 refl $ forget ! 16 refl $ forget ! 18 refl $ forget ! 20 refl $
         forget ! 22 refl $ forget ! 25 refl $ forget ! 27 refl $ forget ! 29 refl $ forget ! 31 refl $

@@ -23,7 +23,7 @@ unfolding code.routine tablesOf
 write-header-spec 𝓤 H 𝓜 𝓖 𝓡 =
     entered 𝓤 H (tripleOf 𝓤 H (𝓖 .A) write-header.signature (write-header.spec 𝓤 H (𝓖 .A) (𝓜 .mem) (𝓡 .run)))
     (tables 𝓤 H 𝓜 𝓡 code.env .C) (tables 𝓤 H 𝓜 𝓡 code.env .Λ) key.name code.function (code.unfolded 𝓤 H 𝓜 𝓡)
-    (thin-meets E′.mir covered.name E.the-row headerWritten (λ (l : List ℕ) (place w h : ℕ) (d : Header). headerList l d) (L.val E.the-type E′.the-laws)
+    (thin-meets E.the-row headerWritten (λ (l : List ℕ) (place w h : ℕ) (d : Header). headerList l d) E′.mir covered.name (L.val E.the-type E′.the-laws)
     (L.tells E.the-type E′.the-laws) (λ y. tt)
     𝓤 H (𝓖 .A) (givenOf 𝓤 H 𝓜 𝓖) (L.makes E.the-type E′.the-plain 𝓤 H (𝓖 .A))
     (λ y is. L.lawful E.the-type E′.the-laws 𝓤 H (𝓖 .A) (givenOf 𝓤 H 𝓜 𝓖) .typed y _ is .0) (λ κs x f. refl)

@@ -20,7 +20,7 @@ unfolding code.routine tablesOf
 write-record-spec 𝓤 H 𝓜 𝓖 𝓡 =
     entered 𝓤 H (tripleOf 𝓤 H (𝓖 .A) write-record.signature (write-record.spec 𝓤 H (𝓖 .A) (𝓜 .mem) (𝓡 .run)))
     (tables 𝓤 H 𝓜 𝓡 code.env .C) (tables 𝓤 H 𝓜 𝓡 code.env .Λ) key.name code.function (code.unfolded 𝓤 H 𝓜 𝓡)
-    (thin-meets E′.mir covered.name E.the-row recordWritten recordList (L.val E.the-type E′.the-laws) (L.tells E.the-type E′.the-laws) (λ y. tt)
+    (thin-meets E.the-row recordWritten recordList E′.mir covered.name (L.val E.the-type E′.the-laws) (L.tells E.the-type E′.the-laws) (λ y. tt)
     𝓤 H (𝓖 .A) (givenOf 𝓤 H 𝓜 𝓖) (L.makes E.the-type E′.the-plain 𝓤 H (𝓖 .A))
     (λ y is. L.lawful E.the-type E′.the-laws 𝓤 H (𝓖 .A) (givenOf 𝓤 H 𝓜 𝓖) tt .typed y _ is .0) (λ κs x f. refl)
     (tablesOf 𝓤 H 𝓜 (tables 𝓤 H 𝓜 𝓡 code.env))

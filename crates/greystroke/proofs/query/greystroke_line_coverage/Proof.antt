@@ -1,4 +1,4 @@
--- The query of the line that the numbers make.
+-- The line is asked about that the numbers make: each coordinate comes back from its local as it was.
 use mir.Facts.{toZ-ofZ}
 use borrow.Author.Needs.{needs}
 use Rattle.greystroke.proofs.query.greystroke_line_coverage.Statement.{statement}

@@ -1,4 +1,4 @@
--- The query of the ring that the numbers make.
+-- The ring is asked about that the numbers make: each coordinate comes back from its local as it was.
 use mir.Facts.{toZ-ofZ}
 use borrow.Author.Needs.{needs}
 use Rattle.greystroke.proofs.query.greystroke_ring_coverage.Statement.{statement}

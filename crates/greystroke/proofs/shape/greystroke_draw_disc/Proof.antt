@@ -1,4 +1,4 @@
--- The clip and the disc that the numbers make, drawn.
+-- The disc is drawn that the numbers make: each coordinate comes back from its local as it was.
 use mir.Facts.{toZ-ofZ}
 use borrow.Author.Needs.{needs}
 use Rattle.greystroke.proofs.shape.greystroke_draw_disc.Statement.{statement}
@@ -6,8 +6,10 @@ use Rattle.greystroke.proofs.shape.greystroke_draw_disc.Tie as tie
 
 returns : tie.Need-returns
 returns c =
-    let fits = c .before .before .before .before .before .before .fits in
-    rw (c .before .before .before .before .clip-of .ensures, toZ-ofZ (fits .cx), toZ-ofZ (fits .cy)) at (c .before .before .draw .ensures)
+    let call = c .before .before in
+    let clip = call .before .before in
+    let fits = clip .before .before .fits in
+    rw (clip .clip-of .ensures, toZ-ofZ (fits .cx), toZ-ofZ (fits .cy)) at (call .draw .ensures)
 
 pub greystroke-draw-disc-spec : {M : Type 1} → statement M
 greystroke-draw-disc-spec = tie.close (tie.spec (λ c κs. search needs) (λ c κs. search needs) (λ c. search needs) returns)

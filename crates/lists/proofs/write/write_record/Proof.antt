@@ -46,7 +46,8 @@ put-requires c κs =
 
 add-t8 : tie.Need-add-t8
 add-t8 c =
-    let size = c .before .before .before .before .before in
+    let bytes = c .before .before .before in
+    let size = bytes .before .before in
     let room = fit (size .before) .room in
     omega (arith, size .record-size .ensures)
 

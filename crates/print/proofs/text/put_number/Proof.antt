@@ -9,8 +9,9 @@ use Rattle.print.proofs.text.put_number.Tie as tie
 
 returns : tie.Need-returns
 returns c =
-    let a = c .before .before .before .before .before .args in
-    let called = c .before .before .put-digits in
+    let call = c .before .before in
+    let a = call .before .before .before .args in
+    let called = call .put-digits in
     (one-behind (called .last .0) (take (a .at) (a .out .now)) (digits (a .places) (a .n)) (called .result) (a .after) (omega arith) (called .ensures .0), omega arith)
 
 pub put-number-spec : {M : Type 1} → statement M
