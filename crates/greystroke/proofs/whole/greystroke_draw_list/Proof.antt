@@ -7,15 +7,6 @@ use borrow.Author.Needs.{needs}
 use Rattle.greystroke.proofs.whole.greystroke_draw_list.Statement.{statement}
 use Rattle.greystroke.proofs.whole.greystroke_draw_list.Tie as tie
 
-draw-list-requires : tie.Need-draw-list-requires
-draw-list-requires c κs = search needs
-
-list-answer-requires : tie.Need-list-answer-requires
-list-answer-requires c κs = search needs
-
-same-length : tie.Need-same-length
-same-length c = search needs
-
 returns : tie.Need-returns
 returns c =
     let drawn = c .before .before .before in
@@ -26,4 +17,4 @@ returns c =
 
 pub greystroke-draw-list-spec : {M : Type 1} → statement M
 greystroke-draw-list-spec =
-    tie.close (tie.spec draw-list-requires list-answer-requires same-length returns)
+    tie.close (tie.spec (λ c κs. search needs) (λ c κs. search needs) (λ c. search needs) returns)
