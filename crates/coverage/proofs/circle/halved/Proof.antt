@@ -6,15 +6,6 @@ use borrow.Author.Needs.{needs}
 use Rattle.coverage.proofs.circle.halved.Statement.{statement}
 use Rattle.coverage.proofs.circle.halved.Tie as tie
 
-add-middle : tie.Need-add-middle
-add-middle c = search needs
-
-mul-odd : tie.Need-mul-odd
-mul-odd c = search needs
-
-sub-odd : tie.Need-sub-odd
-sub-odd c = search needs
-
 mul-if1 : tie.Need-mul-if1
 mul-if1 c =
     let middle = (c .args .low + c .args .high) / 2 in
@@ -31,4 +22,4 @@ returns-2 c =
     narrowed-down (a .low) (a .high) ((a .low + a .high) / 2) (a .m) (omega arith) (omega arith) (c .if1 .left)
 
 pub halved-spec : {M : Type 1} → statement M
-halved-spec = tie.close (tie.spec add-middle mul-odd sub-odd mul-if1 returns returns-2)
+halved-spec = tie.close (tie.spec (λ c. search needs) (λ c. search needs) (λ c. search needs) mul-if1 returns returns-2)

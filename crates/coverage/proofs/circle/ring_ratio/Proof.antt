@@ -22,21 +22,6 @@ centre c =
 pixel : (c : tie.After-point-of2) → let a = c .before .before .before .before .args in c .point-of2 .result ≡ pointOf (a .x) (a .y)
 pixel c = let s = c .before .before .before .before in point-kept (s .fits .x) (s .fits .y) (c .point-of2 .ensures)
 
-point-of-requires : tie.Need-point-of-requires
-point-of-requires c κs = search needs
-
-point-of-requires-2 : tie.Need-point-of-requires-2
-point-of-requires-2 c κs = search needs
-
-apart-of-requires : tie.Need-apart-of-requires
-apart-of-requires c κs = search needs
-
-apart-of-requires-2 : tie.Need-apart-of-requires-2
-apart-of-requires-2 c κs = search needs
-
-cast-chords-of : tie.Need-cast-chords-of
-cast-chords-of c = search needs
-
 -- both circles are asked for the same distances, which are near enough
 near : (c : tie.After-apart-of2) → (c .before .apart-of .result ≤ offsetMost + 1) × (c .apart-of2 .result ≤ offsetMost + 1)
 near c =
@@ -51,9 +36,6 @@ chords-of-requires c κs =
 
 sub-chords-of : tie.Need-sub-chords-of
 sub-chords-of c = let s = c .before .before .before .before .before .before .before .before .before in ring-lawful (s .args .ring) (s .pre .0) .most
-
-cast-chords-of-2 : tie.Need-cast-chords-of-2
-cast-chords-of-2 c = search needs
 
 chords-of-requires-2 : tie.Need-chords-of-requires-2
 chords-of-requires-2 c κs =
@@ -83,15 +65,5 @@ returns c =
 pub ring-ratio-spec : {M : Type 1} → statement M
 ring-ratio-spec =
     tie.close
-    (tie.spec
-    point-of-requires
-    point-of-requires-2
-    apart-of-requires
-    apart-of-requires-2
-    cast-chords-of
-    chords-of-requires
-    sub-chords-of
-    cast-chords-of-2
-    chords-of-requires-2
-    sub-t10
-    returns)
+    (tie.spec (λ c. search needs) (λ c. search needs) (λ c. search needs) (λ c. search needs) (λ c. search needs) chords-of-requires sub-chords-of
+    (λ c. search needs) chords-of-requires-2 sub-t10 returns)

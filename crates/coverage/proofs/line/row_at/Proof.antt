@@ -4,17 +4,8 @@ use borrow.Author.Needs.{needs}
 use Rattle.coverage.proofs.line.row_at.Statement.{statement}
 use Rattle.coverage.proofs.line.row_at.Tie as tie
 
-add-if1 : tie.Need-add-if1
-add-if1 c = search needs
-
 returns : tie.Need-returns
 returns c = row-below (c .before .args .rows) (c .before .args .g) (c .before .args .base) (omega arith)
-
-add-k : tie.Need-add-k
-add-k c = search needs
-
-sub-k : tie.Need-sub-k
-sub-k c = search needs
 
 returns-2 : tie.Need-returns-2
 returns-2 c = row-lower (c .before .before .args .rows) (c .before .before .args .g) (c .before .before .args .base) (omega arith)
@@ -29,5 +20,4 @@ returns-5 : tie.Need-returns-5
 returns-5 c = row-above (c .before .before .args .rows) (c .before .before .args .g) (c .before .before .args .base) (omega arith)
 
 pub row-at-spec : {M : Type 1} → statement M
-row-at-spec =
-    tie.close (tie.spec add-if1 returns add-k sub-k returns-2 returns-3 returns-4 returns-5)
+row-at-spec = tie.close (tie.spec (λ c. search needs) returns (λ c. search needs) (λ c. search needs) returns-2 returns-3 returns-4 returns-5)

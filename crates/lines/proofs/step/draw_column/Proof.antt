@@ -8,22 +8,10 @@ use borrow.Author.Needs.{needs}
 use Rattle.lines.proofs.step.draw_column.Statement.{statement}
 use Rattle.lines.proofs.step.draw_column.Tie as tie
 
-add-is-shown : tie.Need-add-is-shown
-add-is-shown c = search needs
-
-is-shown-requires : tie.Need-is-shown-requires
-is-shown-requires c κs = search needs
-
-byte-above-requires : tie.Need-byte-above-requires
-byte-above-requires c κs = search needs
-
 spot-requires : tie.Need-spot-requires
 spot-requires c κs =
     let p = c .before .before .before .before .pre in
     (λ e. rw (c .byte-above .ensures .0) (p .0 .upper (sym (c .before .is-shown .ensures) ∙ e)), (p .1 .0, p .1 .3))
-
-is-shown-requires-2 : tie.Need-is-shown-requires-2
-is-shown-requires-2 c κs = search needs
 
 spot-requires-2 : tie.Need-spot-requires-2
 spot-requires-2 c κs =
@@ -31,30 +19,12 @@ spot-requires-2 c κs =
     let same = ap length (c .before .before .before .before .spot .ensures .0) ∙ length-spotted (c .before .before .before .before .before .before .is-shown .result) (inkOf (c .before .before .before .before .before .before .before .before .before .args .level) (c .before .before .before .before .before .before .before .before .before .args .d)) (c .before .before .before .before .before .before .before .before .before .args .rows .upper) (c .before .before .before .before .before .byte-above .result - c .before .before .before .before .before .before .before .before .before .args .lay .origin) (c .before .before .before .before .before .before .before .before .before .args .page .now) in
     (λ e. rw same (p .0 .middle (sym (c .is-shown2 .ensures) ∙ e)), (p .1 .1, p .1 .3))
 
-sub-is-shown : tie.Need-sub-is-shown
-sub-is-shown c = search needs
-
-is-shown-requires-3 : tie.Need-is-shown-requires-3
-is-shown-requires-3 c κs = search needs
-
-byte-below-requires : tie.Need-byte-below-requires
-byte-below-requires c κs = search needs
-
 spot-requires-3 : tie.Need-spot-requires-3
 spot-requires-3 c κs =
     let p = c .before .before .before .before .before .before .before .before .before .before .before .before .before .before .before .pre in
     let one = ap length (c .before .before .before .before .before .before .before .before .before .before .spot .ensures .0) ∙ length-spotted (c .before .before .before .before .before .before .before .before .before .before .before .before .is-shown .result) (inkOf (c .before .before .before .before .before .before .before .before .before .before .before .before .before .before .before .args .level) (c .before .before .before .before .before .before .before .before .before .before .before .before .before .before .before .args .d)) (c .before .before .before .before .before .before .before .before .before .before .before .before .before .before .before .args .rows .upper) (c .before .before .before .before .before .before .before .before .before .before .before .byte-above .result - c .before .before .before .before .before .before .before .before .before .before .before .before .before .before .before .args .lay .origin) (c .before .before .before .before .before .before .before .before .before .before .before .before .before .before .before .args .page .now) in
     let two = ap length (c .before .before .before .before .before .spot2 .ensures .0) ∙ length-spotted (c .before .before .before .before .before .before .is-shown2 .result) (inkOf (c .before .before .before .before .before .before .before .before .before .before .before .before .before .before .before .args .level) (c .before .before .before .before .before .before .before .before .before .before .before .before .before .before .before .args .d)) (c .before .before .before .before .before .before .before .before .before .before .before .before .before .before .before .args .rows .middle) (c .before .before .before .before .before .before .before .before .before .before .before .before .before .before .before .args .k - c .before .before .before .before .before .before .before .before .before .before .before .before .before .before .before .args .lay .origin) (c .before .before .before .before .before .before .before .before .before .before .spot .last .0) in
     (λ e. rw (c .byte-below .ensures, two, one) (p .0 .lower (sym (c .before .is-shown3 .ensures) ∙ e)), (p .1 .2, p .1 .3))
-
-add-result : tie.Need-add-result
-add-result c = search needs
-
-add-result-2 : tie.Need-add-result-2
-add-result-2 c = search needs
-
-same-length : tie.Need-same-length
-same-length c = search needs
 
 returns : tie.Need-returns
 returns c = (
@@ -65,18 +35,5 @@ returns c = (
 pub draw-column-spec : {M : Type 1} → statement M
 draw-column-spec =
     tie.close
-    (tie.spec
-    add-is-shown
-    is-shown-requires
-    byte-above-requires
-    spot-requires
-    is-shown-requires-2
-    spot-requires-2
-    sub-is-shown
-    is-shown-requires-3
-    byte-below-requires
-    spot-requires-3
-    add-result
-    add-result-2
-    same-length
-    returns)
+    (tie.spec (λ c. search needs) (λ c. search needs) (λ c. search needs) spot-requires (λ c. search needs) spot-requires-2 (λ c. search needs)
+    (λ c. search needs) (λ c. search needs) spot-requires-3 (λ c. search needs) (λ c. search needs) (λ c. search needs) returns)

@@ -19,17 +19,11 @@ sub-put c = c .before .before .before .before .pre .0 (c .before .before .if1 .t
 put-requires : tie.Need-put-requires
 put-requires c κs = (c .before .before .before .before .pre .0 (c .before .before .if1 .taken) .1, c .before .before .before .before .pre .1 .0, c .before .before .before .before .pre .1 .1)
 
-same-length : tie.Need-same-length
-same-length c = search needs
-
 returns-2 : tie.Need-returns-2
 returns-2 c =
     let a = c .before .before .before .before .before .before .before .args in
     let z : 0 < a .n = omega arith in
     (c .before .before .put .ensures ∙ rw (c .before .before .before .before .before .if1 .taken) (spotted-blend (a .level) (a .d) (a .n) (a .k - a .origin) (a .page .now) (c .before .before .before .before .before .before .before .pre .1 .0 .some)), rw (c .before .before .before .before .before .if1 .taken) (omega arith), omega arith)
 
-returns-3 : tie.Need-returns-3
-returns-3 c = search needs
-
 pub spot-spec : {M : Type 1} → statement M
-spot-spec = tie.close (tie.spec returns sub-put put-requires same-length returns-2 returns-3)
+spot-spec = tie.close (tie.spec returns sub-put put-requires (λ c. search needs) returns-2 (λ c. search needs))
