@@ -1,3 +1,4 @@
+-- A query without a refusal has a lawful shape and a pixel in range, which is all that the ratio of a kind asks.
 use mathlib.Core.Path.{_≡_}
 use mathlib.Core.Bool.{true}
 use native.Mathlib.Omega.{arith}

@@ -1,3 +1,4 @@
+-- A remainder is less than what it is taken by.
 use mathlib.Core.Path.{refl}
 use native.Mathlib.Nat.{mod-lt}
 use borrow.Author.Needs.{needs}

@@ -1,3 +1,4 @@
+-- Bits below 32,768 are the number; from there on it is −1 less the complement of the bits.
 use mathlib.Core.Path.{_≡_, sym, _∙_, ap}
 use Prim.Native.Nat.{ℕ, _-_, _<_, _≤_}
 use native.Mathlib.Omega.{arith}

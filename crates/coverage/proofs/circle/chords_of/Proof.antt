@@ -1,3 +1,4 @@
+-- The smaller of the two distances takes the heights, and the larger is what they are measured against.
 use native.Mathlib.Omega.{arith}
 use Rattle.coverage.specs.Circle.{heightOf}
 use Rattle.coverage.proofs.Chord.{chords-flat, chords-steep}
@@ -7,16 +8,20 @@ use Rattle.coverage.proofs.circle.chords_of.Tie as tie
 
 returns : tie.Need-returns
 returns c =
-    let a = c .before .before .before .before .before .args in (
-      rw (c .before .before .chord-of .ensures .0, c .chord-of2 .ensures .0, c .before .before .before .height-at .ensures, c .before .height-at2 .ensures, chords-flat (heightOf (a .radius)) (a .a) (a .b) (omega arith)),
-      omega (arith, c .before .before .chord-of .ensures .1, c .chord-of2 .ensures .1),
+    let one = c .before .before in
+    let a = one .before .before .before .args in (
+      rw (one .chord-of .ensures .0, c .chord-of2 .ensures .0, one .before .height-at .ensures, c .before .height-at2 .ensures)
+          (rw (chords-flat (heightOf (a .radius)) (a .a) (a .b) (omega arith))),
+      omega (arith, one .chord-of .ensures .1, c .chord-of2 .ensures .1),
     )
 
 returns-2 : tie.Need-returns-2
 returns-2 c =
-    let a = c .before .before .before .before .before .args in (
-      rw (c .before .before .chord-of3 .ensures .0, c .chord-of4 .ensures .0, c .before .before .before .height-at3 .ensures, c .before .height-at4 .ensures, chords-steep (heightOf (a .radius)) (a .a) (a .b) (omega arith)),
-      omega (arith, c .before .before .chord-of3 .ensures .1, c .chord-of4 .ensures .1),
+    let one = c .before .before in
+    let a = one .before .before .before .args in (
+      rw (one .chord-of3 .ensures .0, c .chord-of4 .ensures .0, one .before .height-at3 .ensures, c .before .height-at4 .ensures)
+          (rw (chords-steep (heightOf (a .radius)) (a .a) (a .b) (omega arith))),
+      omega (arith, one .chord-of3 .ensures .1, c .chord-of4 .ensures .1),
     )
 
 pub chords-of-spec : {M : Type 1} → statement M

@@ -1,3 +1,4 @@
+-- By offsets a pixel is as far from the centre as by coordinates, and the coverage is that of the two distances.
 use mathlib.Core.Path.{_≡_}
 use Rattle.numbers.proofs.Coordinate.{in-range}
 use Rattle.shapes.specs.inner.Offsets.{pointOf}

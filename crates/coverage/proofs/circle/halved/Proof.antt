@@ -1,3 +1,4 @@
+-- Half a root is at least the middle just where the square of the odd number below twice the middle is at most m.
 use Prim.Native.Nat.{_+_, _*_, _-_, _/_}
 use native.Mathlib.Omega.{arith}
 use Rattle.numbers.proofs.Order.{square-le}

@@ -1,3 +1,4 @@
+-- The bracket keeps the height between its ends and gets narrower, until it holds one number.
 use mathlib.Core.Path.{sym}
 use Prim.Native.Nat.{_*_, _-_, _<_}
 use native.Mathlib.Omega.{arith}

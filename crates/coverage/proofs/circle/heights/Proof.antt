@@ -48,7 +48,7 @@ found R k y start h₁ h₂ h₃ =
       above = omega (arith, half-root-high start m h₃);
     }
 
-here : (c : tie.After-half-root Inv-loop μ-loop) → Found (c .before .before .before .before .args .radius) (c .before .before .before .loop .k) (c .before .before .before .loop .y) (c .half-root .result)
+here : (c : tie.After-half-root Inv-loop μ-loop) → let l = c .before .before .before in Found (l .before .args .radius) (l .loop .k) (l .loop .y) (c .half-root .result)
 here c =
     let l = c .before .before .before .loop in
     let s = c .before .search-start in

@@ -1,3 +1,4 @@
+-- The square is a product of 16-bit numbers.
 use borrow.Author.Needs.{needs}
 use Rattle.coverage.proofs.line.corner.Statement.{statement}
 use Rattle.coverage.proofs.line.corner.Tie as tie

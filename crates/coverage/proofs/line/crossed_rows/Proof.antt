@@ -1,3 +1,4 @@
+-- With t not negative both outer rows are corners, and the middle one is what they leave of the whole.
 use native.Mathlib.Omega.{arith}
 use Rattle.coverage.proofs.Closed.{corners-le, crossed-is}
 use borrow.Author.Needs.{needs}

@@ -1,3 +1,4 @@
+-- Quotient and remainder of l + 2·s·i by 2·l; as s is at most l and i below l, the quotient is at most l.
 use Prim.Native.Nat.{_≤_}
 use native.Mathlib.Omega.{arith}
 use Rattle.coverage.specs.Line.{rowOf, restOf}

@@ -1,3 +1,4 @@
+-- The three cases of the definition, in the order in which the code tries them.
 use mathlib.Core.Path.{sym}
 use native.Mathlib.Omega.{arith}
 use Rattle.coverage.specs.inner.Rows.{riseOf}

@@ -1,3 +1,4 @@
+-- The row g − base is −1, 0 or 1 as g + 1 − base is 0, 1 or 2; every other row has nothing.
 use native.Mathlib.Omega.{arith}
 use Rattle.coverage.proofs.Closed.{row-below, row-lower, row-middle, row-upper, row-above}
 use borrow.Author.Needs.{needs}

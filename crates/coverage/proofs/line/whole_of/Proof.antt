@@ -1,3 +1,4 @@
+-- The three cases of the definition, in the order in which the code tries them.
 use native.Mathlib.Omega.{arith}
 use Rattle.coverage.specs.Line.{approxWhole}
 use Rattle.coverage.proofs.Closed.{whole-level, whole-slanted}

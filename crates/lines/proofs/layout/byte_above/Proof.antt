@@ -1,3 +1,4 @@
+-- The two branches are the two cases of the definition; neither leaves the range, for the byte is at least a row from both ends.
 use borrow.Author.Needs.{needs}
 use Rattle.lines.proofs.layout.byte_above.Statement.{statement}
 use Rattle.lines.proofs.layout.byte_above.Tie as tie

@@ -1,3 +1,4 @@
+-- The two branches are the two cases of the definition, those of `byte_above` exchanged.
 use borrow.Author.Needs.{needs}
 use Rattle.lines.proofs.layout.byte_below.Statement.{statement}
 use Rattle.lines.proofs.layout.byte_below.Tie as tie

@@ -1,3 +1,4 @@
+-- Each number is chosen by the frame's direction, and the row origin keeps every row from being negative.
 use mathlib.Core.Path.{refl, _∙_}
 use native.Mathlib.Omega.{arith}
 use borrow.Author.Needs.{needs}
@@ -6,12 +7,15 @@ use Rattle.lines.proofs.layout.layout_of.Tie as tie
 
 returns : tie.Need-returns
 returns c =
+    let end = c .before .before in
+    let from = end .before .either3 .ensures .0 in
+    let across = end .before .before in
     record {
-      along-is = c .before .before .before .before .before .either .ensures .0;
-      across-is = c .before .before .before .before .either2 .ensures .0;
+      along-is = across .before .either .ensures .0;
+      across-is = across .either2 .ensures .0;
       falls-is = refl;
-      low-is = c .before .either5 .ensures .0 ∙ rw (c .before .before .before .either3 .ensures .0, c .before .before .either4 .ensures .0);
-      high-is = c .either6 .ensures .0 ∙ rw (c .before .before .before .either3 .ensures .0, c .before .before .either4 .ensures .0);
+      low-is = c .before .either5 .ensures .0 ∙ rw (from, end .either4 .ensures .0);
+      high-is = c .either6 .ensures .0 ∙ rw (from, end .either4 .ensures .0);
       origin-is = refl;
     }
 
