@@ -96,8 +96,9 @@ module _ {x y : ℤ} (px : InRange x) (py : InRange y) where
       let at = disc-offset (w .circle .x-in) (w .circle .y-in) px py in
       sym (ap₂ _-_ (at (g .radius)) (at (g .radius - g .width)))
 
--- no pixel in a query is further than 8,192 from a centre
-pub apart-le : (cx cy x y : ℤ) {c p : Point} {a b : ℕ} → c ≡ pointOf cx cy → p ≡ pointOf x y → a ≡ apart (c .x) (p .x) → b ≡ apart (c .y) (p .y) → (a ≤ offsetMost + 1) × (b ≤ offsetMost + 1)
+-- no offset is further from another than the greatest and one
+pub apart-le : (cx cy x y : ℤ) {c p : Point} {a b : ℕ} → c ≡ pointOf cx cy → p ≡ pointOf x y → a ≡ apart (c .x) (p .x) → b ≡ apart (c .y) (p .y)
+    → (a ≤ offsetMost + 1) × (b ≤ offsetMost + 1)
 apart-le cx cy x y e f g h =
     (rw (g, e, f) (near (offsetOf cx) (offsetOf x) (offset-le cx) (offset-le x)), rw (h, e, f) (near (offsetOf cy) (offsetOf y) (offset-le cy) (offset-le y)))
   where

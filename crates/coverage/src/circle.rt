@@ -108,7 +108,7 @@ fn halved(low: u64, high: u64, m: u64) -> Bracket
 }
 
 // One height of the circle of a radius.
-pub fn height_at(radius: u64, k: u64) -> u64
+fn height_at(radius: u64, k: u64) -> u64
     requires { ⌜ radius ≤ radiusMost ⌝ }
     ensures { λ y. ⌜ y ≡ heightOf radius k ⌝ }
 {
@@ -162,7 +162,7 @@ fn chords_of(radius: u64, a: u64, b: u64) -> u64
 }
 
 // The coverage of a pixel by a disc.
-pub fn disc_ratio(disc: shapes::Disc, x: i16, y: i16) -> crate::Ratio
+pub(crate) fn disc_ratio(disc: shapes::Disc, x: i16, y: i16) -> crate::Ratio
     requires { ⌜ (shapeRefusal (asDisc disc) ≡ 0) × (inRange x ≡ true) × (inRange y ≡ true) ⌝ }
     ensures { λ r. ⌜ r ≡ ratioOf (asDisc disc) x y ⌝ }
 {
@@ -175,7 +175,7 @@ pub fn disc_ratio(disc: shapes::Disc, x: i16, y: i16) -> crate::Ratio
 }
 
 // The coverage of a pixel by a ring.
-pub fn ring_ratio(ring: shapes::Ring, x: i16, y: i16) -> crate::Ratio
+pub(crate) fn ring_ratio(ring: shapes::Ring, x: i16, y: i16) -> crate::Ratio
     requires { ⌜ (shapeRefusal (asRing ring) ≡ 0) × (inRange x ≡ true) × (inRange y ≡ true) ⌝ }
     ensures { λ r. ⌜ r ≡ ratioOf (asRing ring) x y ⌝ }
 {

@@ -220,7 +220,7 @@ fn frame_row(f: Frame, b: u64) -> u64
 }
 
 // The coverage of a pixel by a line.
-pub fn line_ratio(line: shapes::Line, x: i16, y: i16) -> crate::Ratio
+pub(crate) fn line_ratio(line: shapes::Line, x: i16, y: i16) -> crate::Ratio
     requires { ⌜ (shapeRefusal (asShape line) ≡ 0) × (inRange x ≡ true) × (inRange y ≡ true) ⌝ }
     ensures { λ r. ⌜ r ≡ ratioOf (asShape line) x y ⌝ }
 {

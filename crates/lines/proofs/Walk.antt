@@ -7,7 +7,7 @@ use Prim.Native.Nat.{ℕ, _+_, _-_, _*_, _≤_, _<_}
 use native.Mathlib.Omega.{arith}
 use lib.Dec.{leb, ltb}
 use borrow.Author.Tests.{le-leb, lt-ltb, leb-true, ltb-true}
-use Rattle.numbers.proofs.Order.{lt-or-le}
+use Rattle.numbers.proofs.Order.{lt-or-le, both-true}
 use Rattle.shapes.specs.declared.Shape.the-variants.{Line as line}
 use Rattle.coverage.specs.inner.Frame.{rowOrigin}
 use Rattle.coverage.specs.inner.OnPage.{shapeOn}
@@ -20,7 +20,6 @@ use Rattle.lines.specs.inner.Stroke.{At, Prepared, Standing, Steppable, 
 use Rattle.lines.specs.declared.step.Step.{Step}
 use Rattle.lines.specs.declared.step.Stroke.{Stroke}
 use Rattle.lines.proofs.Strip.{strip-join, strip-none}
-use Rattle.lines.proofs.RowPixel.{both-true}
 use Rattle.lines.proofs.Steps.{reaches}
 
 abbrev columns : Stroke → ℕ → ℕ → ℕ → ℕ → ℕ

@@ -32,14 +32,14 @@ pub struct Layout {
 }
 
 // a or b.
-pub fn either(first: bool, a: usize, b: usize) -> usize
+pub(crate) fn either(first: bool, a: usize, b: usize) -> usize
     ensures { λ r. ⌜ (r ≡ cond first a b) × (r ≤ a + b) ⌝ }
 {
     if first { a } else { b }
 }
 
 // How a frame lies on a page.
-pub fn layout_of(view: View, f: Frame) -> Layout
+pub(crate) fn layout_of(view: View, f: Frame) -> Layout
     requires { ⌜ (view .w ≤ 1024) × (view .x0 ≤ 1024) × (view .y0 ≤ 1024) × (view .x1 ≤ 1024) × (view .y1 ≤ 1024) × (f .y ≤ offsetMost) ⌝ }
     ensures { λ lay. ⌜ Laid view f lay ⌝ }
 {
@@ -59,14 +59,14 @@ pub fn layout_of(view: View, f: Frame) -> Layout
 }
 
 // Whether row g lies in the clip.
-pub fn is_shown(lay: Layout, g: usize) -> bool
+pub(crate) fn is_shown(lay: Layout, g: usize) -> bool
     ensures { λ t. ⌜ t ≡ shown lay g ⌝ }
 {
     if lay.low <= g { g < lay.high } else { false }
 }
 
 // The byte of the row above byte k.
-pub fn byte_above(lay: Layout, k: usize) -> usize
+pub(crate) fn byte_above(lay: Layout, k: usize) -> usize
     requires { ⌜ (lay .across ≤ k) × (k + lay .across < 2 ^ 63) ⌝ }
     ensures { λ r. ⌜ (r ≡ raised lay k) × (r ≤ k + lay .across) ⌝ }
 {
@@ -78,7 +78,7 @@ pub fn byte_above(lay: Layout, k: usize) -> usize
 }
 
 // The byte of the row below byte k.
-pub fn byte_below(lay: Layout, k: usize) -> usize
+pub(crate) fn byte_below(lay: Layout, k: usize) -> usize
     requires { ⌜ (lay .across ≤ k) × (k + lay .across < 2 ^ 63) ⌝ }
     ensures { λ r. ⌜ r ≡ lowered lay k ⌝ }
 {

@@ -63,7 +63,7 @@ fn walk_inside(page: &mut [u8], s: Stroke, from: Step, end: usize) -> Step
 }
 
 // Draws columns from to end of a line; hands back how many pixels they touched.
-pub fn draw_columns(
+pub(crate) fn draw_columns(
     page: &mut [u8],
     view: View,
     line: shapes::Line,

@@ -34,7 +34,7 @@ pub struct Step {
 }
 
 // Where a walk that begins at column p stands.
-pub fn first_step(lay: Layout, f: Frame, p: usize) -> Step
+pub(crate) fn first_step(lay: Layout, f: Frame, p: usize) -> Step
     requires { ⌜ FirstFits lay f p ⌝ }
     ensures { λ at. ⌜ At f lay at × (at .p ≡ p) × (at .touched ≡ 0) ⌝ }
 {
@@ -154,7 +154,7 @@ fn draw_column(
 }
 
 // Draws the column where a walk stands, under the clip, and goes on to the next.
-pub fn step_clipped(page: &mut [u8], s: Stroke, at: Step) -> Step
+pub(crate) fn step_clipped(page: &mut [u8], s: Stroke, at: Step) -> Step
     requires { ⌜ Steppable s at (length (now page)) ⌝ }
     ensures { λ to. ⌜ Stepped (inkOf (s .level) (s .d)) s at to (now (page .entry)) (now (page .exit)) ⌝ }
 {
@@ -201,7 +201,7 @@ fn step_crossed(page: &mut [u8], s: Stroke, at: Step) -> Step
 }
 
 // Draws the column where a walk stands, which lies inside the clip, and goes on to the next.
-pub fn step_inside(page: &mut [u8], s: Stroke, at: Step) -> Step
+pub(crate) fn step_inside(page: &mut [u8], s: Stroke, at: Step) -> Step
     requires { ⌜ Steppable s at (length (now page)) × Inner s at ⌝ }
     ensures { λ to. ⌜ Stepped (inkOf (s .level) (s .d)) s at to (now (page .entry)) (now (page .exit)) ⌝ }
 {

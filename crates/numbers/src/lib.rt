@@ -54,7 +54,7 @@ pub fn distance(a: u64, b: u64) -> u64
 }
 
 // Whether a coordinate is from -4,096 to 4,095.
-pub fn in_range(c: i16) -> bool
+fn in_range(c: i16) -> bool
     ensures { λ r. ⌜ r ≡ inRange c ⌝ }
 {
     -4096 <= c && c <= 4095

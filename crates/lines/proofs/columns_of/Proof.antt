@@ -6,27 +6,6 @@ use borrow.Author.Needs.{needs}
 use Rattle.lines.proofs.columns_of.Statement.{statement}
 use Rattle.lines.proofs.columns_of.Tie as tie
 
-either-requires : tie.Need-either-requires
-either-requires c κs = search needs
-
-either-requires-2 : tie.Need-either-requires-2
-either-requires-2 c κs = search needs
-
-less-requires : tie.Need-less-requires
-less-requires c κs = search needs
-
-greater-requires : tie.Need-greater-requires
-greater-requires c κs = search needs
-
-add-less : tie.Need-add-less
-add-less c = search needs
-
-less-requires-2 : tie.Need-less-requires-2
-less-requires-2 c κs = search needs
-
-lesser-requires : tie.Need-lesser-requires
-lesser-requires c κs = search needs
-
 returns : tie.Need-returns
 returns c =
     let low = c .before .before .before in
@@ -39,12 +18,5 @@ returns c =
 pub columns-of-spec : {M : Type 1} → statement M
 columns-of-spec =
     tie.close
-    (tie.spec
-    either-requires
-    either-requires-2
-    less-requires
-    greater-requires
-    add-less
-    less-requires-2
-    lesser-requires
+    (tie.spec (λ c. search needs) (λ c. search needs) (λ c. search needs) (λ c. search needs) (λ c. search needs) (λ c. search needs) (λ c. search needs)
     returns)

@@ -11,12 +11,6 @@ use borrow.Author.Needs.{needs}
 use Rattle.lines.proofs.draw_columns.Statement.{statement}
 use Rattle.lines.proofs.draw_columns.Tie as tie
 
-layout-of-requires : tie.Need-layout-of-requires
-layout-of-requires c κs = search needs
-
-whole-of-requires : tie.Need-whole-of-requires
-whole-of-requires c κs = search needs
-
 reciprocal-requires : tie.Need-reciprocal-requires
 reciprocal-requires c κs =
     let s = c .before .before .before in
@@ -80,9 +74,6 @@ walk-clipped-requires-2 c κs =
     let g = inner .walk-inside .ensures in
     walkable-on (inner .walk-inside .kept .0 ∙ lower .walk-clipped .kept .0) (walkable (begun lower)) (extended-join (e .0) (g .0)) (g .1)
 
-same-length : tie.Need-same-length
-same-length c = search needs
-
 returns : tie.Need-returns
 returns c =
     let upper = c .before .before in
@@ -98,13 +89,5 @@ returns c =
 pub draw-columns-spec : {M : Type 1} → statement M
 draw-columns-spec =
     tie.close
-    (tie.spec
-    layout-of-requires
-    whole-of-requires
-    reciprocal-requires
-    first-step-requires
-    walk-clipped-requires
-    walk-inside-requires
-    walk-clipped-requires-2
-    same-length
-    returns)
+    (tie.spec (λ c. search needs) (λ c. search needs) reciprocal-requires first-step-requires walk-clipped-requires walk-inside-requires
+    walk-clipped-requires-2 (λ c. search needs) returns)

@@ -12,12 +12,6 @@ columns : (c : tie.After-columns-of) → let f = c .before in let a = f .before 
     Columns (a .view) (a .line) (f .frame-of .result) (c .columns-of .result .from) (c .columns-of .result .end)
 columns c = let f = c .before in c .columns-of .ensures (f .before .before .args .line) (f .frame-of .ensures)
 
-frame-of-requires : tie.Need-frame-of-requires
-frame-of-requires c κs = search needs
-
-columns-of-requires : tie.Need-columns-of-requires
-columns-of-requires c κs = search needs
-
 returns : tie.Need-returns
 returns c =
     let k = c .before .before in
@@ -29,13 +23,10 @@ draw-columns-requires c κs =
     let f = k .before in
     (f .before .before .pre .0, f .frame-of .ensures, columns k .between (c .before .if1 .left))
 
-same-length : tie.Need-same-length
-same-length c = search needs
-
 returns-2 : tie.Need-returns-2
 returns-2 c =
     let d = c .before .before in
     drawn-ext _ (columns (d .before .before .before .before) .whole) (d .draw-columns .ensures)
 
 pub draw-line-spec : {M : Type 1} → statement M
-draw-line-spec = tie.close (tie.spec frame-of-requires columns-of-requires returns draw-columns-requires same-length returns-2)
+draw-line-spec = tie.close (tie.spec (λ c. search needs) (λ c. search needs) returns draw-columns-requires (λ c. search needs) returns-2)

@@ -56,15 +56,4 @@ returns c =
     (v .inv .1, v .inv .2, stops (v .at .p) (a .end) (v .at .g) (a .top) (sym (c .before .goes-on .ensures) ∙ c .if1 .left))
 
 pub walk-clipped-spec : {M : Type 1} → statement M
-walk-clipped-spec =
-    tie.close
-    (tie.spec
-    Inv-loop
-    μ-loop
-    loop-holds
-    goes-on-requires
-    step-clipped-requires
-    loop-less
-    loop-again
-    same-length
-    returns)
+walk-clipped-spec = tie.close (tie.spec Inv-loop μ-loop loop-holds goes-on-requires step-clipped-requires loop-less loop-again same-length returns)

@@ -67,14 +67,4 @@ returns c = (c .before .before .loop .inv .1, c .before .before .loop .inv .2)
 pub walk-inside-spec : {M : Type 1} → statement M
 walk-inside-spec =
     tie.close
-    (tie.spec
-    Inv-loop
-    μ-loop
-    sub-top
-    loop-holds
-    goes-on-requires
-    step-inside-requires
-    loop-less
-    loop-again
-    same-length
-    returns)
+    (tie.spec Inv-loop μ-loop sub-top loop-holds goes-on-requires step-inside-requires loop-less loop-again same-length returns)

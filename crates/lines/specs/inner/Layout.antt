@@ -17,7 +17,14 @@ use Rattle.page.specs.inner.Paint.{dot, touch, clipped, inView}
 use Rattle.page.specs.declared.View.{View}
 use Rattle.lines.specs.declared.layout.Layout.{Layout}
 
--- the clip's range along a frame's columns, and across them
+-- a pixel's coordinate along a frame's columns, and across them
+abbrev pub alongOf : Frame → ℕ → ℕ → ℕ
+alongOf f x y = cond (f .steep) y x
+
+abbrev pub acrossOf : Frame → ℕ → ℕ → ℕ
+acrossOf f x y = cond (f .steep) x y
+
+-- the clip's range along them, and across
 abbrev pub alongFrom : View → Frame → ℕ
 alongFrom c f = cond (f .steep) (c .y0) (c .x0)
 
@@ -53,7 +60,7 @@ pub record Columns (c : View) (n : Line) (f : Frame) (p e : ℕ) : Type 0 where
 
 -- the frame's row of a pixel
 abbrev pub rowOn : Frame → ℕ → ℕ → ℕ
-rowOn f x y = rowAt f (cond (f .steep) x y + origin)
+rowOn f x y = rowAt f (acrossOf f x y + origin)
 
 -- the offset across the columns of row g, with the row origin added
 abbrev pub acrossBy : Bool → ℕ → ℕ → ℕ

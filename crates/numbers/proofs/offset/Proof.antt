@@ -10,12 +10,6 @@ use Rattle.numbers.proofs.Coordinate.{raised-fits, raised-nonNeg, offse
 use Rattle.numbers.proofs.offset.Statement.{statement}
 use Rattle.numbers.proofs.offset.Tie as tie
 
-in-range-requires : tie.Need-in-range-requires
-in-range-requires c κs = search needs
-
-cast-result : tie.Need-cast-result
-cast-result c = search needs
-
 module _ (c : tie.Then1) where
   abbrev z : ℤ
   z = c .before .before .args .c
@@ -32,9 +26,6 @@ add-result c = let i = t c in search (needs, raised-fits)
 cast-result-2 : tie.Need-cast-result-2
 cast-result-2 c = let i = t c in search (needs, raised-fits, raised-nonNeg, fits-natAbs)
 
-add-result-2 : tie.Need-add-result-2
-add-result-2 c = search needs
-
 returns : tie.Need-returns
 returns c = rw (toZ-ofZ (c .before .before .fits .c), toZ-ofZ (raised-fits (z c) (t c))) (offset-in (z c) (inside c))
 
@@ -44,4 +35,4 @@ returns-2 c =
     offset-out (s .args .c) (rw (toZ-ofZ (s .fits .c)) at (sym (c .before .in-range .ensures) ∙ c .if1 .left))
 
 pub offset-spec : {M : Type 1} → statement M
-offset-spec = tie.close (tie.spec in-range-requires cast-result add-result cast-result-2 add-result-2 returns returns-2)
+offset-spec = tie.close (tie.spec (λ c. search needs) (λ c. search needs) add-result cast-result-2 (λ c. search needs) returns returns-2)

@@ -51,18 +51,6 @@ module _ (c : tie.After-either2) where
   across : c .either2 .result ≡ cond (f k .frame-of .result .steep) (offsetOf (s k .args .x)) (offsetOf (s k .args .y))
   across = rw (pixel k) at (c .either2 .ensures)
 
-frame-of-requires : tie.Need-frame-of-requires
-frame-of-requires c κs = search needs
-
-whole-of-requires : tie.Need-whole-of-requires
-whole-of-requires c κs = search needs
-
-point-of-requires : tie.Need-point-of-requires
-point-of-requires c κs = search needs
-
-either-requires : tie.Need-either-requires
-either-requires c κs = search needs
-
 returns : tie.Need-returns
 returns c =
     let k = c .before .before in
@@ -70,24 +58,12 @@ returns c =
     let d = whole k in
     λ i. record { n = e i; d = d i }
 
-add-if2 : tie.Need-add-if2
-add-if2 c = search needs
-
 returns-2 : tie.Need-returns-2
 returns-2 c =
     let k = c .before .before .before .before in
     let e = drawn-right (f k .frame-of .ensures) (px k) (py k) (rw (along k) at (c .if2 .taken)) in
     let d = whole k in
     λ i. record { n = e i; d = d i }
-
-crossing-at-requires : tie.Need-crossing-at-requires
-crossing-at-requires c κs = search needs
-
-rows-of-requires : tie.Need-rows-of-requires
-rows-of-requires c κs = search needs
-
-either-requires-2 : tie.Need-either-requires-2
-either-requires-2 c κs = search needs
 
 frame-row-requires : tie.Need-frame-row-requires
 frame-row-requires c κs =
@@ -118,18 +94,5 @@ returns-3 c =
 pub line-ratio-spec : {M : Type 1} → statement M
 line-ratio-spec =
     tie.close
-    (tie.spec
-    frame-of-requires
-    whole-of-requires
-    point-of-requires
-    either-requires
-    returns
-    add-if2
-    returns-2
-    crossing-at-requires
-    rows-of-requires
-    either-requires-2
-    frame-row-requires
-    add-row-at
-    row-at-requires
-    returns-3)
+    (tie.spec (λ c. search needs) (λ c. search needs) (λ c. search needs) (λ c. search needs) returns (λ c. search needs) returns-2 (λ c. search needs)
+    (λ c. search needs) (λ c. search needs) frame-row-requires add-row-at row-at-requires returns-3)

@@ -9,30 +9,6 @@ use Rattle.lines.proofs.step.advanced.Tie as tie
 abbrev start : tie.After-struct-known5 → tie.Start
 start c = let k = c .before .before in k .before .before .before
 
-mul-whole : tie.Need-mul-whole
-mul-whole c = search needs
-
-mul-rest : tie.Need-mul-rest
-mul-rest c = search needs
-
-add-rest : tie.Need-add-rest
-add-rest c = search needs
-
-add-p : tie.Need-add-p
-add-p c = search needs
-
-add-touched : tie.Need-add-touched
-add-touched c = search needs
-
-byte-above-requires : tie.Need-byte-above-requires
-byte-above-requires c κs = search needs
-
-add-t12 : tie.Need-add-t12
-add-t12 c = search needs
-
-add-t13 : tie.Need-add-t13
-add-t13 c = search needs
-
 returns : tie.Need-returns
 returns c =
     let above = c .before .before in
@@ -40,9 +16,6 @@ returns c =
     let a = start k .args in
     let e = le-leb (2 * a .f .l) (a .at .r + 2 * a .f .s) (above .before .if1 .taken) in
     record { p-is = refl; k-is = rw (e, above .byte-above .ensures .0); g-is = rw e; r-is = rw e; touched-is = refl }
-
-add-t15 : tie.Need-add-t15
-add-t15 c = search needs
 
 returns-2 : tie.Need-returns-2
 returns-2 c =
@@ -54,15 +27,5 @@ returns-2 c =
 pub advanced-spec : {M : Type 1} → statement M
 advanced-spec =
     tie.close
-    (tie.spec
-    mul-whole
-    mul-rest
-    add-rest
-    add-p
-    add-touched
-    byte-above-requires
-    add-t12
-    add-t13
-    returns
-    add-t15
-    returns-2)
+    (tie.spec (λ c. search needs) (λ c. search needs) (λ c. search needs) (λ c. search needs) (λ c. search needs) (λ c. search needs) (λ c. search needs)
+    (λ c. search needs) returns (λ c. search needs) returns-2)

@@ -9,33 +9,6 @@ use Rattle.numbers.specs.inner.Offset.{origin}
 use Rattle.lines.proofs.step.first_step.Statement.{statement}
 use Rattle.lines.proofs.step.first_step.Tie as tie
 
-add-crossing-at : tie.Need-add-crossing-at
-add-crossing-at c = search needs
-
-sub-crossing-at : tie.Need-sub-crossing-at
-sub-crossing-at c = search needs
-
-crossing-at-requires : tie.Need-crossing-at-requires
-crossing-at-requires c κs = search needs
-
-add-g : tie.Need-add-g
-add-g c = search needs
-
-add-either : tie.Need-add-either
-add-either c = search needs
-
-sub-either : tie.Need-sub-either
-sub-either c = search needs
-
-add-either-2 : tie.Need-add-either-2
-add-either-2 c = search needs
-
-either-requires : tie.Need-either-requires
-either-requires c κs = search needs
-
-add-t11 : tie.Need-add-t11
-add-t11 c = search needs
-
 -- the two products of the byte's index
 module _ (c : tie.After-either) where
   abbrev s : tie.Start
@@ -68,17 +41,5 @@ returns c =
 pub first-step-spec : {M : Type 1} → statement M
 first-step-spec =
     tie.close
-    (tie.spec
-    add-crossing-at
-    sub-crossing-at
-    crossing-at-requires
-    add-g
-    add-either
-    sub-either
-    add-either-2
-    either-requires
-    add-t11
-    mul-t13
-    mul-t12
-    add-t14
-    returns)
+    (tie.spec (λ c. search needs) (λ c. search needs) (λ c. search needs) (λ c. search needs) (λ c. search needs) (λ c. search needs) (λ c. search needs)
+    (λ c. search needs) (λ c. search needs) mul-t13 mul-t12 add-t14 returns)

@@ -28,9 +28,6 @@ advanced-requires c κs =
     let drawn = c .before .before in
     (advances (start (drawn .before .before .before) .pre), drawn .draw-column .ensures .1 .1)
 
-same-length : tie.Need-same-length
-same-length c = search needs
-
 returns : tie.Need-returns
 returns c =
     let drawn = c .before .before .before in
@@ -42,4 +39,4 @@ returns c =
     (c .advanced .ensures) (d .ensures .0) (d .ensures .1 .0) (d .ensures .1 .1)
 
 pub step-clipped-spec : {M : Type 1} → statement M
-step-clipped-spec = tie.close (tie.spec rows-of-requires draw-column-requires advanced-requires same-length returns)
+step-clipped-spec = tie.close (tie.spec rows-of-requires draw-column-requires advanced-requires (λ c. search needs) returns)

@@ -73,17 +73,11 @@ put-requires-2 c κs =
       pre .0 .ready .m-is,
     )
 
-add-advanced : tie.Need-add-advanced
-add-advanced c = search needs
-
 advanced-requires : tie.Need-advanced-requires
 advanced-requires c κs =
     let put = c .before .before .before .before in
     let spot = spot-at (put .before .before) in
     (advances (start (rows-at (known spot) .before) .pre .0), omega (arith, spot .spot .ensures .2))
-
-same-length : tie.Need-same-length
-same-length c = search needs
 
 returns : tie.Need-returns
 returns c =
@@ -104,16 +98,5 @@ returns c =
 pub step-crossed-spec : {M : Type 1} → statement M
 step-crossed-spec =
     tie.close
-    (tie.spec
-    crossed-rows-requires
-    byte-above-requires
-    byte-below-requires
-    spot-requires
-    sub-put
-    put-requires
-    sub-put-2
-    put-requires-2
-    add-advanced
-    advanced-requires
-    same-length
-    returns)
+    (tie.spec crossed-rows-requires byte-above-requires byte-below-requires spot-requires sub-put put-requires sub-put-2 put-requires-2
+    (λ c. search needs) advanced-requires (λ c. search needs) returns)

@@ -56,9 +56,6 @@ advanced-requires c κs =
     let put = c .before .before .before .before in
     (advances (start (rows-at (put .before .before) .before) .pre .0), omega arith)
 
-same-length : tie.Need-same-length
-same-length c = search needs
-
 returns : tie.Need-returns
 returns c =
     let put2 = c .before .before .before in
@@ -80,13 +77,4 @@ returns c =
 pub step-flat-spec : {M : Type 1} → statement M
 step-flat-spec =
     tie.close
-    (tie.spec
-    flat-rows-requires
-    byte-below-requires
-    sub-put
-    put-requires
-    sub-put-2
-    put-requires-2
-    advanced-requires
-    same-length
-    returns)
+    (tie.spec flat-rows-requires byte-below-requires sub-put put-requires sub-put-2 put-requires-2 advanced-requires (λ c. search needs) returns)
