@@ -32,6 +32,7 @@ module _ (l s i : ℕ) (long : 0 < l) (short : s ≤ l) where
   abbrev r : ℕ
   r = restOf l s i
 
+  -- l + 2·s·(i + 1) = 2·l·q + (r + 2·s): the rest grows by 2s, and comes to a new row where that is 2l or more
   next-column : (rowOf l s (i + 1) ≡ cond (leb (2 * l) (r + 2 * s)) (q + 1) q) × (restOf l s (i + 1) ≡ cond (leb (2 * l) (r + 2 * s)) (r + 2 * s - 2 * l) (r + 2 * s))
   next-column = ⊎-elim same further (lt-or-le (r + 2 * s) (2 * l))
     where

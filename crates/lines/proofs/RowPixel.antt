@@ -104,7 +104,9 @@ module _ (c : View) (f : Frame) (lay : Layout) (size : ℕ) (w : Lawful c size) 
   pixel p g h k e =
       let both = both-true (leb (lay .low) g) (ltb g (lay .high)) e in
       let o = across-order in
-      let a = across-is (f .falls) (f .y) g (acrossFrom c f) (acrossEnd c f) (lay .low) (lay .high) hy (o .1) (o .0) (d .low-is) (d .high-is) (leb-true (lay .low) g (both .0)) (ltb-true g (lay .high) (both .1)) in
+      let least = leb-true (lay .low) g (both .0) in
+      let less = ltb-true g (lay .high) (both .1) in
+      let a = across-is (f .falls) (f .y) g (acrossFrom c f) (acrossEnd c f) (lay .low) (lay .high) hy (o .1) (o .0) (d .low-is) (d .high-is) least less in
       let t = turned f p (acrossAt (f .falls) (f .y) g) in
       let i : InStrip c f p (p + 1) (pixelX p g) (pixelY p g) =
       record { least = omega (arith, t .0); less = omega (arith, t .0); low = omega (arith, t .1, a .least); high = omega (arith, t .1, a .less) } in

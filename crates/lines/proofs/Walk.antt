@@ -90,8 +90,8 @@ walkable-first ready b is p-is zero =
     }
 
 -- and where it goes on
-pub walkable-on : {ink : ℕ → ℕ → ℕ} {s : Stroke} {at to : Step} {e size size′ : ℕ} {l m : List ℕ} → size′ ≡ size → Walkable s at e size → Extended ink s at to l m → to .p ≤ e
-    → Walkable s to e size′
+pub walkable-on : {ink : ℕ → ℕ → ℕ} {s : Stroke} {at to : Step} {e size size′ : ℕ} {l m : List ℕ} → size′ ≡ size → Walkable s at e size
+    → Extended ink s at to l m → to .p ≤ e → Walkable s to e size′
 walkable-on {s = s} same w x h = record { ready = subst (Prepared s) (sym same) (w .ready); standing = x .standing; order = h; within = w .within }
 
 pub steppable : {ink : ℕ → ℕ → ℕ} {s : Stroke} {at to : Step} {e size size′ : ℕ} {l m : List ℕ} → size′ ≡ size → Walkable s at e size → Extended ink s at to l m → to .p < e

@@ -29,31 +29,32 @@ loop-holds c =
 goes-on-requires : tie.Need-goes-on-requires Inv-loop μ-loop
 goes-on-requires c κs = tt
 
--- the test says that a column is left, in a row below the highest but one
-more : (c : tie.Then1 Inv-loop μ-loop) → let v = c .before .before .loop in let s = c .before .before .before .before in
-    let a = s .before .before .args in (v .at .p < a .end) × (v .at .g ≤ a .s .layout .high - 2)
+-- the test says that a column is left
+more : (c : tie.Then1 Inv-loop μ-loop) → let v = c .before .before in
+    let s = v .before .before .before .before in
+    v .loop .at .p < s .args .end
 more c =
     let v = c .before .before in
-    let a = v .before .before .before .before .args in
-    goes (v .loop .at .p) (a .end) (v .loop .at .g) (a .s .layout .high - 2) (sym (c .before .goes-on .ensures) ∙ c .if1 .taken)
+    let s = v .before .before .before .before in
+    goes (v .loop .at .p) (s .args .end) (v .loop .at .g) _ (sym (c .before .goes-on .ensures) ∙ c .if1 .taken) .0
 
 step-inside-requires : tie.Need-step-inside-requires Inv-loop μ-loop
 step-inside-requires c κs =
     let v = c .before .before .before in
     let s = v .before .before .before .before in
-    let h = more (c .before) in
+    let h = goes (v .loop .at .p) (s .args .end) (v .loop .at .g) _ (sym (c .before .before .goes-on .ensures) ∙ c .before .if1 .taken) in
     let two = high-least (s .args .s) (length (s .args .page .now)) (s .pre .0 .ready) in
     (steppable (v .loop .inv .0) (s .pre .0) (v .loop .inv .1) (h .0), record { above-low = v .loop .inv .3 (h .0); below-high = omega (arith, h .1, two) })
 
 loop-less : tie.Need-loop-less Inv-loop μ-loop
-loop-less c = let t = c .before .before in omega (arith, more (t .before .before) .0, t .step-inside .ensures .p-is)
+loop-less c = let t = c .before .before in omega (arith, more (t .before .before), t .step-inside .ensures .p-is)
 
 loop-again : tie.Need-loop-again Inv-loop μ-loop
 loop-again c =
     let t = c .before .before in
     let n = t .before .before in
     let v = n .before .before .loop in
-    let h = more n .0 in
+    let h = more n in
     let step = t .step-inside in
     let to = step .ensures in
     (step .kept .0 ∙ v .inv .0, extended-join (v .inv .1) (to .extended), omega (arith, h, to .p-is), λ z. omega (arith, v .inv .3 h, to .rises))
