@@ -11,6 +11,7 @@ use Rattle.shapes.specs.declared.Basis.{Basis}
 use Rattle.shapes.specs.declared.Record.{Record}
 use Rattle.lists.specs.Format.{kindSize, kindAt, sizeAt, recordAt}
 use Rattle.lists.specs.Read.{readRefusal}
+use Rattle.lists.specs.inner.Record.{Whole}
 use Rattle.lists.specs.List.{Records, accepted, refused, onto, behindEnd, recordsFrom, checkedAs}
 use Rattle.lists.specs.declared.format.Header.{Header}
 use Rattle.lists.specs.declared.check.Checked.{Checked}
@@ -64,7 +65,10 @@ module _ {d : Header} {b : Basis} {list : List ℕ} {answer : Checked} {place f 
       ∙ sym (p .same ∙ ap (checkedAs d) (at-refusal b (p .fuel) (drop place list) place (omega arith)))
 
   -- no refusal: the record has n bytes
-  module _ {n : ℕ} (none : f ≤ 0) (size : n ≡ kindSize (getD list place 0)) where
+  module _ (none : f ≤ 0) where
+    abbrev n : ℕ
+    n = kindSize (getD list place 0)
+
     none-is : readRefusal b (drop place list) ≡ 0
     none-is = refusal-is ∙ omega arith
 
@@ -72,11 +76,14 @@ module _ {d : Header} {b : Basis} {list : List ℕ} {answer : Checked} {place f 
     kind-is = getD-drop place list 0 0 ∙ ap (λ (i : ℕ). getD list i 0) (omega arith)
 
     size-is : sizeAt (drop place list) ≡ n
-    size-is = ap kindSize kind-is ∙ sym size
+    size-is = ap kindSize kind-is
+
+    pub stands-whole : Whole (drop place list)
+    stands-whole = readable b (drop place list) none-is .whole
 
     pub next-inside : (0 < n) × (place + n ≤ length list)
     next-inside =
-        let whole = readable b (drop place list) none-is .whole in
+        let whole = stands-whole in
         let e = size-is in
         let k = length-drop place list in
         (omega arith, omega arith)

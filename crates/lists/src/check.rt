@@ -11,9 +11,9 @@ use super::format::Header;
 use super::format::LIST_MOST;
 use super::format::VERSION;
 use super::format::basis_of;
-use super::format::kind_size;
 use super::format::read_header;
 use super::format::word_at;
+use super::read::next_place;
 use super::read::read_refusal;
 
 // What the check answers: the header of an accepted list, or the number of the refusal and its place.
@@ -79,7 +79,7 @@ fn check_records(list: &[u8], header: Header) -> Checked
             return Checked::Refused { refusal, place };
         }
         let kind = list[place];
-        place = place + kind_size(kind);
+        place = next_place(list, place);
         if kind == 0 {
             if place < list.len() {
                 return Checked::Refused { refusal: 6, place };

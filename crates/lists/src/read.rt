@@ -1,5 +1,9 @@
 // Reads one record from the front of some bytes.
 ghost use mathlib.Core.Path.{_≡_};
+ghost use Prim.Native.Nat.{_+_, _≤_};
+ghost use lib.ListN.{length, getD, drop};
+ghost use Rattle.lists.specs.Format.{kindSize, sizeAt};
+ghost use Rattle.lists.specs.inner.Record.{Whole};
 ghost use Rattle.lists.specs.Read.{readRefusal, readingOf, pastRecord};
 use super::format::decode;
 use super::format::kind_size;
@@ -44,6 +48,15 @@ pub fn read_record(list: &[u8], basis: Basis) -> Reading
     Reading::Found(decode(list))
 }
 
+// The bytes past the record that stands whole at the front.
+fn past(list: &[u8]) -> &[u8]
+    requires { ⌜ Whole (now list) ⌝ }
+    ensures { λ r. ⌜ now r ≡ drop (sizeAt (now (list .entry))) (now (list .entry)) ⌝ }
+{
+    let next = kind_size(list[0]);
+    &list[next..]
+}
+
 // The bytes past the record at the front, or all of them after a refusal.
 pub fn rest(list: &[u8], basis: Basis) -> &[u8]
     ensures { λ r. ⌜ now r ≡ pastRecord basis (now (list .entry)) ⌝ }
@@ -51,6 +64,14 @@ pub fn rest(list: &[u8], basis: Basis) -> &[u8]
     if 0 < read_refusal(list, basis) {
         return list;
     }
-    let next = kind_size(list[0]);
-    &list[next..]
+    past(list)
+}
+
+// Where the next record begins: a walk over a list goes by the part past each record.
+pub fn next_place(list: &[u8], place: usize) -> usize
+    requires { ⌜ (place ≤ length (now list)) × Whole (drop place (now list)) ⌝ }
+    ensures { λ r. ⌜ r ≡ place + kindSize (getD (now (list .entry)) place 0) ⌝ }
+{
+    let left = past(&list[place..]);
+    list.len() - left.len()
 }

@@ -1,13 +1,12 @@
 -- Invariant: the answer is what the bytes from the place on give (`Reached`). Each turn passes a record, so that what is left of the list falls.
-use mathlib.Core.Path.{refl}
-use Prim.Native.Nat.{suc, _-_}
+use Prim.Native.Nat.{suc, _+_, _-_, _≤_, _<_}
 use native.Mathlib.Omega.{arith}
 use borrow.Author.Needs.{needs}
-use lib.ListN.{length, drop}
+use lib.ListN.{length, getD, drop}
 use denote.Ref.{now}
-use Rattle.lists.specs.Format.{headerSize, basisOf}
+use Rattle.lists.specs.Format.{headerSize, kindSize, basisOf}
 use Rattle.lists.specs.List.{checkedAs, recordsFrom}
-use Rattle.lists.proofs.Walk.{Reached, reached-start, refused-here, next-inside, surplus, accepted-here, next-reached}
+use Rattle.lists.proofs.Walk.{Reached, reached-start, refused-here, stands-whole, next-inside, surplus, accepted-here, next-reached}
 use Rattle.lists.proofs.check.check_records.Statement.{statement}
 use Rattle.lists.proofs.check.check_records.Tie as tie
 
@@ -29,38 +28,47 @@ sub-read-refusal c = c .loop .inv .inside
 returns : tie.Need-returns Inv-loop μ-loop
 returns c = refused-here (c .before .before .before .loop .inv) (c .before .read-refusal .ensures) (c .if1 .taken)
 
--- `one`: the turn where no refusal was found
-shared-slice-read-kind : tie.Need-shared-slice-read-kind Inv-loop μ-loop
-shared-slice-read-kind c =
-    let one = c .before in
-    let next = next-inside (one .before .before .before .loop .inv) (one .before .read-refusal .ensures) (one .if1 .left) refl in omega arith
+-- a turn where no refusal was found
+module _ (c : tie.Else1 Inv-loop μ-loop) where
+  abbrev turn : tie.At-loop Inv-loop μ-loop
+  turn = c .before .before .before
 
-add-place : tie.Need-add-place Inv-loop μ-loop
-add-place c =
-    let one = c .before .before in
-    let next = next-inside (one .before .before .before .loop .inv) (one .before .read-refusal .ensures) (one .if1 .left) (c .kind-size .ensures) in omega arith
+  inside : (0 < kindSize (getD (now (turn .before .before .before .args .list)) (turn .loop .place) 0))
+      × (turn .loop .place + kindSize (getD (now (turn .before .before .before .args .list)) (turn .loop .place) 0) ≤ length (now (turn .before .before .before .args .list)))
+  inside = next-inside (turn .loop .inv) (c .before .read-refusal .ensures) (c .if1 .left)
+
+shared-slice-read-kind : tie.Need-shared-slice-read-kind Inv-loop μ-loop
+shared-slice-read-kind c = let next = inside (c .before) in omega arith
+
+next-place-requires : tie.Need-next-place-requires Inv-loop μ-loop
+next-place-requires c κs =
+    let one = c .before in
+    (turn one .loop .inv .inside, stands-whole (turn one .loop .inv) (one .before .read-refusal .ensures) (one .if1 .left))
 
 returns-2 : tie.Need-returns-2 Inv-loop μ-loop
 returns-2 c =
-    let size = c .before .before in
-    let one = size .before .before in
-    surplus (one .before .before .before .loop .inv) (one .before .read-refusal .ensures) (one .if1 .left) (size .kind-size .ensures) (c .before .if2 .taken) (c .if3 .taken)
+    let next = c .before .before in
+    let one = next .before .before in
+    rw (next .next-place .ensures)
+    (surplus (turn one .loop .inv) (one .before .read-refusal .ensures) (one .if1 .left) (c .before .if2 .taken) (omega (arith, next .next-place .ensures, c .if3 .taken)))
 
 returns-3 : tie.Need-returns-3 Inv-loop μ-loop
 returns-3 c =
-    let size = c .before .before in
-    let one = size .before .before in
-    accepted-here (one .before .before .before .loop .inv) (one .before .read-refusal .ensures) (one .if1 .left) (size .kind-size .ensures) (c .before .if2 .taken) (c .if3 .left)
+    let next = c .before .before in
+    let one = next .before .before in
+    accepted-here (turn one .loop .inv) (one .before .read-refusal .ensures) (one .if1 .left) (c .before .if2 .taken) (omega (arith, next .next-place .ensures, c .if3 .left))
 
 loop-less : tie.Need-loop-less Inv-loop μ-loop
 loop-less c =
-    let one = c .before .before .before in
-    let next = next-inside (one .before .before .before .loop .inv) (one .before .read-refusal .ensures) (one .if1 .left) (c .before .kind-size .ensures) in omega arith
+    let next = c .before in
+    let i = inside (next .before .before) in
+    omega (arith, next .next-place .ensures)
 
 loop-again : tie.Need-loop-again Inv-loop μ-loop
 loop-again c =
-    let one = c .before .before .before in
-    next-reached (one .before .before .before .loop .inv) (one .before .read-refusal .ensures) (one .if1 .left) (c .before .kind-size .ensures) (c .if2 .left)
+    let next = c .before in
+    let one = next .before .before in
+    rw (next .next-place .ensures) (next-reached (turn one .loop .inv) (one .before .read-refusal .ensures) (one .if1 .left) (c .if2 .left))
 
 pub check-records-spec : {M : Type 1} → statement M
 check-records-spec =
@@ -74,8 +82,7 @@ check-records-spec =
     (λ c. search needs) (λ c. search needs) (λ c κs. search needs)
     returns
     shared-slice-read-kind
-    (λ c κs. search needs)
-    add-place
+    next-place-requires
     returns-2
     returns-3
     loop-less
