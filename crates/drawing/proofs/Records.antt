@@ -28,7 +28,7 @@ use Rattle.drawing.specs.inner.Walk.{shapesPage, Drawable, AllLawful, Sh
 use Rattle.lists.specs.inner.Walk.{recordsIn, listRecords, listDrawings}
 use Rattle.lists.specs.declared.settings.Settings.{Settings}
 use Rattle.drawing.proofs.Shapes.{page-then, length-shapes}
-use Rattle.lists.proofs.Left.{Left, left-start, left-page, left-inside, left-end, left-lawful, left-next}
+use Rattle.lists.proofs.Left.{Left, left-start, left-page, left-inside, left-end, left-lawful, Step, left-next}
 
 -- ---- one record
 
@@ -95,35 +95,33 @@ module _ {b : Basis} {sum place t : ℕ} {list goal l : List ℕ} {all : List Dr
     lawful-record = (view-lawful (b .w) (b .h) (length l) (f .clip) (left-page (p .left)) (p .room) (p .left .clip), left-lawful (p .left) found)
 
     -- it is no end: it is drawn, and the rest is left
-    module _ (some : getD list place 0 ≡ 0 → ⊥) {m : List ℕ} {k n : ℕ} {g : Settings}
+    module _ (some : getD list place 0 ≡ 0 → ⊥) {m : List ℕ} {k after : ℕ} {g : Settings}
         (drawn : ShapesDrawn b (drawingOf f r) l m k × (k ≤ 1048576) × (f .level ≤ 255))
-        (next : g ≡ inForce f r) (size : n ≡ kindSize (getD list place 0)) where
-      abbrev rest : List Record
-      rest = left-next (p .left) found some next size .records-left
+        (next : g ≡ inForce f r) (past : after ≡ place + kindSize (getD list place 0)) where
+      abbrev then-left : Step (p .left) found some next past
+      then-left = left-next (p .left) found some next past
 
-      drawings-then : drawingsFrom f (p .records) ≡ drawingOf f r ++ drawingsFrom g rest
-      unfolding drawingsFrom
-      drawings-then =
-          ap (drawingsFrom f) (left-next (p .left) found some next size .same) ∙ ap (λ (q : Settings). drawingOf f r ++ drawingsFrom q rest) (sym next)
+      abbrev rest : List Record
+      rest = then-left .records-left
 
       page-left : goal ≡ shapesPage (b .w) (drawingsFrom g rest) m
       page-left =
           p .page
-          ∙ ap (λ ds. shapesPage (b .w) ds l) drawings-then
+          ∙ ap (λ ds. shapesPage (b .w) ds l) (then-left .drawings)
           ∙ page-then (b .w) (drawingOf f r) (drawingsFrom g rest) l
           ∙ ap (shapesPage (b .w) (drawingsFrom g rest)) (sym (drawn .0 .page))
 
       count-left : sum ≡ t + k + shapesCount (b .w) (b .h) (drawingsFrom g rest)
       count-left =
-          let e = p .count ∙ ap (λ ds. t + shapesCount (b .w) (b .h) ds) drawings-then in
+          let e = p .count ∙ ap (λ ds. t + shapesCount (b .w) (b .h) ds) (then-left .drawings) in
           let j = total-++ (drawingCount (b .w) (b .h)) (drawingOf f r) (drawingsFrom g rest) in
           let d = drawn .0 .count in
           omega arith
 
       lawful-left : AllLawful (drawingsFrom g rest) → AllLawful all
-      lawful-left a = p .lawful (subst AllLawful (sym drawings-then) (lawful-then b f r (drawingsFrom g rest) (left-lawful (p .left) found) (drawn .2) a))
+      lawful-left a = p .lawful (subst AllLawful (sym (then-left .drawings)) (lawful-then b f r (drawingsFrom g rest) (left-lawful (p .left) found) (drawn .2) a))
 
-      pub remaining-next : Remaining b list all goal sum (place + n) g m (t + k)
+      pub remaining-next : Remaining b list all goal sum after g m (t + k)
       remaining-next =
           let i = left-inside (p .left) in
           let d = drawn .1 in
@@ -132,7 +130,7 @@ module _ {b : Basis} {sum place t : ℕ} {list goal l : List ℕ} {all : List Dr
           let same = ap length (drawn .0 .page) ∙ length-shapes (b .w) (drawingOf f r) l in
           record {
             records = rest;
-            left = left-next (p .left) found some next size .left;
+            left = then-left .left;
             page = page-left;
             count = count-left;
             lawful = lawful-left;

@@ -53,7 +53,7 @@ fn draw_records(page: &mut [u8], list: &[u8], basis: Basis) -> u64
         let clip = settings.clip;
         touched += draw_record(page, basis, clip, settings.level, rec);
         settings = lists::settings::settings_after(settings, rec);
-        place += lists::format::kind_size(kind);
+        place = lists::read::next_place(list, place);
     }
 }
 

@@ -1,6 +1,6 @@
 -- A walk over the records of an accepted list: what is left of it at a place, where the settings f are in force.
 use mathlib.Core.Path.{_≡_, sym, _∙_, ap, subst}
-use mathlib.Core.List.{List, [], _∷_}
+use mathlib.Core.List.{List, [], _∷_, _++_}
 use Prim.Native.Nat.{ℕ, suc, _+_, _-_, _≤_, _<_}
 use native.Mathlib.Nat.{le-of-eq}
 use native.Mathlib.Omega.{arith}
@@ -17,6 +17,7 @@ use Rattle.lists.specs.inner.Record.{Whole}
 use Rattle.lists.proofs.Refusals.{Readable}
 use Rattle.lists.proofs.Accepted.{Holds, holds, holds-readable, holds-end, Next, holds-next}
 use Rattle.lists.specs.Settings.{start, inForce}
+use Rattle.lists.specs.Drawing.{drawingOf, drawingsFrom}
 use Rattle.lists.specs.inner.Walk.{recordsIn, listRecords, Walkable}
 use Rattle.lists.specs.declared.settings.Settings.{Settings}
 
@@ -80,8 +81,11 @@ module _ {b : Basis} {place : ℕ} {list : List ℕ} {f : Settings} {records : L
   all-here = take-all (length list - place) (drop place list) (le-of-eq (length-drop place list))
 
   -- a record r stands whole
+  pub left-stands : Whole here
+  left-stands = readable-here .whole
+
   pub left-whole : Whole (take (length list - place) (drop place list))
-  left-whole = rw all-here (readable-here .whole)
+  left-whole = rw all-here left-stands
 
   module _ {r : Record} (found : r ≡ recordAt (take (length list - place) (drop place list))) where
     pub left-found : r ≡ recordAt here
@@ -91,26 +95,32 @@ module _ {b : Basis} {place : ℕ} {list : List ℕ} {f : Settings} {records : L
     left-lawful = ap (recordRefusal b) left-found ∙ readable-here .lawful
 
     -- and is no end: the rest is left
-    module _ (some : getD list place 0 ≡ 0 → ⊥) {n : ℕ} {g : Settings} (next : g ≡ inForce f r) (size : n ≡ kindSize (getD list place 0)) where
+    module _ (some : getD list place 0 ≡ 0 → ⊥) {after : ℕ} {g : Settings} (next : g ≡ inForce f r) (past : after ≡ place + kindSize (getD list place 0)) where
       rest : Next b here records
       rest = holds-next b here records (p .holds) (λ e. some (sym left-kind ∙ e))
 
       pub record Step : Type 0 where
         pub records-left : List Record
-        pub same : records ≡ r ∷ records-left
-        pub left : Left b list (place + n) g records-left
+        pub drawings : drawingsFrom f records ≡ drawingOf f r ++ drawingsFrom g records-left
+        pub left : Left b list after g records-left
+
+      drawings-then : drawingsFrom f records ≡ drawingOf f r ++ drawingsFrom g (rest .rest)
+      unfolding drawingsFrom
+      drawings-then =
+          ap (drawingsFrom f) (rest .same ∙ ap (λ (q : Record). q ∷ rest .rest) (sym left-found))
+          ∙ ap (λ (q : Settings). drawingOf f r ++ drawingsFrom q (rest .rest)) (sym next)
 
       -- what holds at the place holds behind the record: drop (place + n) list = drop n (drop place list)
       pub left-next : Step
       left-next =
           record {
             records-left = rest .rest;
-            same = rest .same ∙ ap (λ (q : Record). q ∷ rest .rest) (sym left-found);
+            drawings = drawings-then;
             left =
                 record {
                   holds =
                       subst (λ (s : List ℕ). Holds b s (rest .rest))
-                      (drop-drop (sizeAt here) place list ∙ ap (λ (j : ℕ). drop (place + j) list) (ap kindSize left-kind ∙ sym size))
+                      (drop-drop (sizeAt here) place list ∙ ap (λ (j : ℕ). drop (place + j) list) (ap kindSize left-kind) ∙ ap (λ (j : ℕ). drop j list) (sym past))
                       (rest .left);
                   clip = subst (λ (q : Settings). clipRefusal (b .w) (b .h) (q .clip) ≡ 0) (sym next) (clip-kept b f r left-lawful (p .clip));
                   most = p .most;

@@ -6,7 +6,7 @@ use borrow.Author.Needs.{needs}
 use denote.Ref.{now}
 use lib.ListN.{length}
 use Rattle.drawing.proofs.Shapes.{length-shapes}
-use Rattle.lists.proofs.Left.{left-inside, left-whole}
+use Rattle.lists.proofs.Left.{left-inside, left-stands, left-whole}
 use Rattle.drawing.proofs.Records.{RemainingOf, remaining-start, remaining-end, lawful-record, remaining-next}
 use Rattle.drawing.proofs.draw_records.Statement.{statement}
 use Rattle.drawing.proofs.draw_records.Tie as tie
@@ -25,7 +25,7 @@ decoded c = c .before .before .before .before
 abbrev drawn : tie.After-draw-record Inv-loop μ-loop → tie.After-decode Inv-loop μ-loop
 drawn c = c .before .before .before
 
-abbrev sized : tie.After-kind-size Inv-loop μ-loop → tie.After-draw-record Inv-loop μ-loop
+abbrev sized : tie.After-next-place Inv-loop μ-loop → tie.After-draw-record Inv-loop μ-loop
 sized c = c .before .before .before .before
 
 loop-holds : tie.Need-loop-holds Inv-loop μ-loop
@@ -66,18 +66,16 @@ add-touched c =
     let k = r .draw-record .ensures .1 in
     record { fits = omega arith }
 
-add-place : tie.Need-add-place Inv-loop μ-loop
-add-place c =
-    let p = decoded (drawn (sized c)) .loop .inv .0 in
-    let i = left-inside (p .left) in
-    let most = p .left .most in
-    let e = c .kind-size .ensures in
-    record { fits = omega arith }
+next-place-requires : tie.Need-next-place-requires Inv-loop μ-loop
+next-place-requires c κs =
+    let p = decoded (drawn (c .before .before .before)) .loop .inv .0 .left in
+    let i = left-inside p in
+    (omega arith, left-stands p)
 
 loop-less : tie.Need-loop-less Inv-loop μ-loop
 loop-less c =
     let i = left-inside (decoded (drawn (sized c)) .loop .inv .0 .left) in
-    let e = c .kind-size .ensures in
+    let e = c .next-place .ensures in
     omega arith
 
 loop-again : tie.Need-loop-again Inv-loop μ-loop
@@ -86,7 +84,7 @@ loop-again c =
     let d = drawn r in
     let p = decoded d .loop .inv in
     let some = d .before .before .if1 .left in (
-      remaining-next (p .0) (d .decode .ensures) some (r .draw-record .ensures) (c .before .settings-after .ensures) (c .kind-size .ensures),
+      remaining-next (p .0) (d .decode .ensures) some (r .draw-record .ensures) (c .before .settings-after .ensures) (c .next-place .ensures),
       ap length (r .draw-record .ensures .0 .page) ∙ length-shapes _ _ _ ∙ p .1,
     )
 
@@ -108,7 +106,6 @@ draw-records-spec =
     draw-record-requires
     add-touched
     (λ c κs. search needs)
-    (λ c κs. search needs)
-    add-place
+    next-place-requires
     loop-less
     loop-again)
