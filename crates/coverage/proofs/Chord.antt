@@ -4,7 +4,7 @@ use mathlib.Core.Logic.{⊎-elim}
 use Prim.Native.Nat.{ℕ, _+_, _*_, _-_, _≤_, _<_, min, max}
 use native.Mathlib.Omega.{arith}
 use lib.IntN.{ℤ, _-ℤ_}
-use Rattle.numbers.specs.inner.Offset.{offsetOf}
+use Rattle.numbers.specs.inner.Offset.{offsetMost, offsetOf}
 use Rattle.numbers.proofs.Order.{lt-or-le, square-le}
 use Rattle.numbers.proofs.Integer.{Diff, above, below}
 use Rattle.numbers.proofs.Coordinate.{InRange, offset-diff, offset-le}
@@ -96,12 +96,13 @@ module _ {x y : ℤ} (px : InRange x) (py : InRange y) where
       let at = disc-offset (w .circle .x-in) (w .circle .y-in) px py in
       sym (ap₂ _-_ (at (g .radius)) (at (g .radius - g .width)))
 
--- no pixel in a query is further than 8,192 from a centre
-pub apart-le : (cx cy x y : ℤ) {c p : Point} {a b : ℕ} → c ≡ pointOf cx cy → p ≡ pointOf x y → a ≡ apart (c .x) (p .x) → b ≡ apart (c .y) (p .y) → (a ≤ 8192) × (b ≤ 8192)
+-- no offset is further from another than the greatest and one
+pub apart-le : (cx cy x y : ℤ) {c p : Point} {a b : ℕ} → c ≡ pointOf cx cy → p ≡ pointOf x y → a ≡ apart (c .x) (p .x) → b ≡ apart (c .y) (p .y)
+    → (a ≤ offsetMost + 1) × (b ≤ offsetMost + 1)
 apart-le cx cy x y e f g h =
     (rw (g, e, f) (near (offsetOf cx) (offsetOf x) (offset-le cx) (offset-le x)), rw (h, e, f) (near (offsetOf cy) (offsetOf y) (offset-le cy) (offset-le y)))
   where
-    near : (u v : ℕ) → u ≤ 8192 → v ≤ 8192 → apart u v ≤ 8192
+    near : (u v : ℕ) → u ≤ offsetMost + 1 → v ≤ offsetMost + 1 → apart u v ≤ offsetMost + 1
     near u v h k = omega arith
 
 -- ---- a bracket around half a root

@@ -170,7 +170,7 @@ unfolding riseOf
 rise-slanted zero r h = absurd (omega arith)
 rise-slanted (suc s) r h = refl
 
--- the corner is at most half of the rise, and the lower row is not empty
+-- the middle row is not empty: exact 2·t² ≤ 4·s·r < 4·s·(r + s), approximate t < r + s; nor is the lower one
 pub middle-some : (exact : Bool) (l s r : ℕ) → s ≤ l → r < 2 * l → 0 < r + s → 2 * cornerAt exact l s r < riseOf exact s r
 unfolding riseOf
 middle-some true l zero r h k z = let e : cutExcess l 0 r ≡ 0 = omega arith in rw e (omega arith)

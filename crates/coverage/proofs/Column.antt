@@ -46,6 +46,7 @@ pub record RowsNear (l s : ℕ) (a e : Rows) : Type 0 where
   pub middle : Within (a .middle over 4 * l) (e .middle over exactWhole l s) (s over 4 * 1 * l)
   pub lower : Within (a .lower over 4 * l) (e .lower over exactWhole l s) (s over 4 * 2 * l)
 
+-- over 8·l·s the rows differ by 2·s·t − t², twice that and 2·s·t − t², and t² ≤ 2·s·t ≤ t² + s²
 pub near-rows : (l s i : ℕ) → 0 < l → s ≤ l → RowsNear l s (rowsOf false l s (restOf l s i)) (rowsOf true l s (restOf l s i))
 unfolding riseOf exactWhole approxWhole
 near-rows l zero i long short =

@@ -9,7 +9,7 @@ use lib.Dec.{ltb, leb}
 use lib.IntN.{ℤ}
 use lib.Signed.{leZ}
 use Rattle.numbers.specs.inner.Order.{dist}
-use Rattle.numbers.specs.inner.Offset.{offsetOf}
+use Rattle.numbers.specs.inner.Offset.{offsetMost, offsetOf}
 use Rattle.numbers.proofs.Order.{lt-or-le}
 use Rattle.numbers.proofs.Integer.{Diff, diff-pos, diff-neg, diff-minus, diff-shift}
 use Rattle.numbers.proofs.Coordinate.{InRange, in-range, offset-diff, le-offset}
@@ -133,7 +133,7 @@ module _ (n : Line) (w : LawfulLine n) where
       let k : Rising (ltb across along) (offsets (framed n)) f = subst (λ (e : OffsetEnds). Rising (ltb across along) e f) (sym framed-is) h in
       let l : f .l ≡ longer n = h .l-is ∙ sym (o .span-x) ∙ sym (exchanged-spans .0) in
       let s : f .s ≡ shorter n = h .s-is ∙ sym (o .span-y) ∙ sym (exchanged-spans .1) in
-      let right = subst (λ (e : OffsetEnds). e .x1 < 8192) framed-is (i .x1-in .less) in
+      let right = subst (λ (e : OffsetEnds). e .x1 < offsetMost + 1) framed-is (i .x1-in .less) in
       record {
         l-is = l;
         s-is = s;

@@ -5,7 +5,7 @@ use Prim.Native.Nat.{ℕ, _+_, _-_, _≤_, _<_}
 use native.Mathlib.Omega.{arith}
 use borrow.Author.Tests.{lt-ltb, le-ltb}
 use lib.IntN.{ℤ, pos, natAbs, subℕ, _-ℤ_}
-use Rattle.numbers.specs.inner.Offset.{offsetOf}
+use Rattle.numbers.specs.inner.Offset.{offsetMost, offsetOf}
 use Rattle.numbers.proofs.Integer.{Diff, above, below, diff-sub, diff-pos, diff-minus, diff-shift, diff-unique}
 use Rattle.numbers.proofs.Coordinate.{InRange}
 use Rattle.shapes.specs.declared.Line.{Line}
@@ -13,7 +13,7 @@ use Rattle.coverage.specs.Line.{rowOf, restOf}
 use Rattle.coverage.specs.inner.Rows.{ruleOf, wholeOf, rowsOf, atRow}
 use Rattle.shapes.specs.Span.{longer, shorter}
 use Rattle.coverage.specs.Frame.{columnOf, frameRow}
-use Rattle.coverage.specs.inner.Frame.{Framed}
+use Rattle.coverage.specs.inner.Frame.{rowOrigin, rowBy, rowAt, Framed}
 use Rattle.coverage.specs.Coverage.{inColumns, lineCover, lineRules, rulesOf, drawnN, drawnD}
 use Rattle.shapes.specs.declared.Shape.the-variants.{Line as line}
 use Rattle.coverage.specs.declared.line.Frame.{Frame}
@@ -23,10 +23,6 @@ use Rattle.coverage.proofs.Framing.{column-diff, row-rising, row-fallin
 either : (t : Bool) {a b m : ℕ} → a ≤ m → b ≤ m → cond t a b ≤ m
 either true h k = h
 either false h k = k
-
--- no row counted from −8,192 is above 16,383
-pub biased-le : (t : Bool) {g y b : ℕ} → y ≤ 8191 → b ≤ 8191 → g ≡ cond t (y + 8191 - b) (b + 8192 - y) → g ≤ 65535
-biased-le t {y = y} {b = b} h k e = rw e (either t (omega arith) (omega arith))
 
 -- ---- columns
 in-columns : (l : ℕ) (rule : ℕ → ℤ) {z : ℤ} {a b : ℕ} → Diff z a b → b ≤ a → a < b + l → inColumns l rule z ≡ rule (a - b)
@@ -61,7 +57,7 @@ module _ {n : Line} {f : Frame} (g : Framed n f) where
     abbrev across : ℕ
     across = cond (f .steep) (offsetOf x) (offsetOf y)
 
-    pub across-le : across ≤ 8191
+    pub across-le : across ≤ offsetMost
     across-le = either (f .steep) (omega (arith, px .less)) (omega (arith, py .less))
 
     -- the rule that the line is drawn with, in column i
@@ -82,24 +78,20 @@ module _ {n : Line} {f : Frame} (g : Framed n f) where
     pub drawn-right : f .x + f .l ≤ along → 0 ≡ drawnN (line n) x y
     drawn-right h = sym (ap natAbs (out-right (longer n) ruled (column-diff g px py) (omega (arith, g .l-is)))) ∙ drawn
 
-    -- its row counted from −8,192
-    abbrev biased : ℕ
-    biased = cond (f .falls) (f .y + 8191 - across) (across + 8192 - f .y)
-
-    row-biased : Diff (frameRow n x y) biased 8192
-    row-biased = go (f .falls) refl
+    row-diff : Diff (frameRow n x y) (rowAt f across) rowOrigin
+    row-diff = go (f .falls) refl
       where
-        go : (t : Bool) → f .falls ≡ t → Diff (frameRow n x y) (cond t (f .y + 8191 - across) (across + 8192 - f .y)) 8192
-        go true e = diff-shift (f .y + 8191 - across) 8192 (row-falling g px py e) (omega (arith, across-le))
-        go false e = diff-shift (across + 8192 - f .y) 8192 (row-rising g px py e) (omega (arith, g .high))
+        go : (t : Bool) → f .falls ≡ t → Diff (frameRow n x y) (rowBy t (f .y) across) rowOrigin
+        go true e = diff-shift (rowBy true (f .y) across) rowOrigin (row-falling g px py e) (omega (arith, across-le))
+        go false e = diff-shift (rowBy false (f .y) across) rowOrigin (row-rising g px py e) (omega (arith, g .high))
 
     -- in its columns a line has what the closed rows have
     pub drawn-inside : f .x ≤ along → along < f .x + f .l
-        → atRow (rowsOf (n .exact) (f .l) (f .s) (restOf (f .l) (f .s) (along - f .x))) (subℕ biased (8192 + rowOf (f .l) (f .s) (along - f .x))) ≡ drawnN (line n) x y
+        → atRow (rowsOf (n .exact) (f .l) (f .s) (restOf (f .l) (f .s) (along - f .x))) (subℕ (rowAt f across) (rowOrigin + rowOf (f .l) (f .s) (along - f .x))) ≡ drawnN (line n) x y
     drawn-inside h k =
         let i : ℕ = along - f .x in
         let q : ℕ = rowOf (f .l) (f .s) i in
-        let e : subℕ biased (8192 + q) ≡ frameRow n x y -ℤ pos q = diff-unique (diff-sub biased (8192 + q)) (diff-minus row-biased (diff-pos q)) (omega arith) in
+        let e : subℕ (rowAt f across) (rowOrigin + q) ≡ frameRow n x y -ℤ pos q = diff-unique (diff-sub (rowAt f across) (rowOrigin + q)) (diff-minus row-diff (diff-pos q)) (omega arith) in
         ap (atRow (rowsOf (n .exact) (f .l) (f .s) (restOf (f .l) (f .s) i))) e
         ∙ sym (part-is (n .exact) (f .l) (f .s) i (frameRow n x y) (g .long) (g .short))
         ∙ rw (g .l-is, g .s-is) refl

@@ -9,6 +9,7 @@ use lib.IntN.{ℤ}
 use mir.Syntax.{w16}
 use mir.Val.{SFits, toZ, ofZ}
 use mir.Facts.{toZ-ofZ}
+use Rattle.numbers.specs.inner.Offset.{offsetMost}
 use Rattle.numbers.specs.Coordinate.{inRange}
 use Rattle.shapes.specs.Limits.{first, outside, offRange, refusalsOf, shapeRefusal}
 use Rattle.shapes.specs.inner.Offsets.{pointOf}
@@ -42,7 +43,7 @@ query-seven s x y e = query-refusals s x y ∙ rw e refl
 
 -- by the answers of the calls
 pub query-told : (s : Shape) {x y : ℤ} (f : ℕ) (p : Point) → SFits w16 x → SFits w16 y → f ≡ shapeRefusal s → p ≡ pointOf (toZ w16 (ofZ w16 x)) (toZ w16 (ofZ w16 y))
-    → queryRefusal s x y ≡ cond (eqb f 7) 7 (cond (ltb 8191 (p .x) || ltb 8191 (p .y)) 7 f)
+    → queryRefusal s x y ≡ cond (eqb f 7) 7 (cond (ltb offsetMost (p .x) || ltb offsetMost (p .y)) 7 f)
 query-told s {x} {y} f p fx fy e h = rw (point-kept fx fy h, e, ← outside-offset x, ← outside-offset y) (query-refusals s x y)
 
 -- nothing refused: the shape is lawful and the pixel in range

@@ -26,7 +26,8 @@ use Rattle.shapes.proofs.Span.{some-span, span-le}
 use Rattle.coverage.proofs.Chord.{disc-le, ring-le}
 
 -- a relation that holds of 0 and 0, and in every column
-columns : (R : ℕ → ℕ → Type 0) (l : ℕ) (e a : ℕ → ℤ) → R 0 0 → ((i : ℕ) → R (natAbs (e i)) (natAbs (a i))) → (z : ℤ) → R (natAbs (inColumns l e z)) (natAbs (inColumns l a z))
+columns : (R : ℕ → ℕ → Type 0) (l : ℕ) (e a : ℕ → ℤ) → R 0 0 → ((i : ℕ) → R (natAbs (e i)) (natAbs (a i)))
+    → (z : ℤ) → R (natAbs (inColumns l e z)) (natAbs (inColumns l a z))
 unfolding inColumns
 columns R l e a none each (pos i) = go (ltb i l)
   where

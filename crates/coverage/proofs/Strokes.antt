@@ -52,7 +52,8 @@ pub strokes :
     × Disc 2 (pos 0) (pos 1) 443
     × Disc 2 (pos 1) (pos 1) 187
     × Disc 5 (pos 3) (pos 3) 256
-unfolding P slant leftHeight rightHeight F levelRow exactRow exactWhole rowOf restOf threeRows excess flatRows crossedRows approxRow approxWhole spanX spanY longer shorter steep exchanged rising framed falls mirrored columnOf straightRow frameRow folded chord chords discCover inColumns lineCover lineRules rulesOf
+unfolding P slant leftHeight rightHeight F levelRow exactRow exactWhole rowOf restOf threeRows excess flatRows crossedRows approxRow approxWhole
+    spanX spanY longer shorter steep exchanged rising framed falls mirrored columnOf straightRow frameRow folded chord chords discCover inColumns lineCover lineRules rulesOf
 strokes = (
   refl,
   refl,

@@ -3,11 +3,12 @@ ghost use mathlib.Core.Path.{_≡_};
 ghost use Prim.Native.Nat.{ℕ, _+_, _*_, _-_, _^_, _≤_, _<_, min};
 ghost use lib.ListN.{getD};
 ghost use Rattle.numbers.specs.Coordinate.{inRange};
+ghost use Rattle.numbers.specs.inner.Offset.{offsetMost};
 ghost use Rattle.shapes.specs.Limits.{shapeRefusal};
 ghost use Rattle.shapes.specs.declared.Shape.the-variants.{Disc as asDisc, Ring as asRing};
 ghost use mathlib.Core.Bool.{true};
 ghost use Rattle.coverage.specs.Circle.{halfRoot, heightOf, chords};
-ghost use Rattle.coverage.specs.inner.Circle.{apart, Narrowed};
+ghost use Rattle.coverage.specs.inner.Circle.{radiusMost, apart, Narrowed};
 ghost use Rattle.coverage.specs.Coverage.{ratioOf};
 
 // The whole number nearest to half the square root of m, searched downwards from y.
@@ -63,12 +64,15 @@ fn search_start(y: u64, step: u64, m: u64) -> u64
     if m < odd * odd { t } else { y }
 }
 
-// The heights of the circle of a radius, at 0 to 256.
-pub fn heights(radius: u64) -> [u32; 257]
-    requires { ⌜ radius ≤ 255 ⌝ }
+// How many heights are held: those at 0 to one above the greatest radius.
+pub const HEIGHTS: usize = 257;
+
+// The heights of the circle of a radius.
+pub fn heights(radius: u64) -> [u32; HEIGHTS]
+    requires { ⌜ radius ≤ radiusMost ⌝ }
     ensures { λ hs. ⌜ ((k : ℕ) → getD hs k 0 ≡ heightOf radius k) ⌝ }
 {
-    let mut hs = [0u32; 257];
+    let mut hs = [0u32; HEIGHTS];
     let mut y = 256 * radius;
     let mut step: u64 = 0;
     let mut k: u64 = 0;
@@ -104,8 +108,8 @@ fn halved(low: u64, high: u64, m: u64) -> Bracket
 }
 
 // One height of the circle of a radius.
-pub fn height_at(radius: u64, k: u64) -> u64
-    requires { ⌜ radius ≤ 255 ⌝ }
+fn height_at(radius: u64, k: u64) -> u64
+    requires { ⌜ radius ≤ radiusMost ⌝ }
     ensures { λ y. ⌜ y ≡ heightOf radius k ⌝ }
 {
     if radius <= k {
@@ -147,7 +151,7 @@ pub fn chord_of(height: u64, n: u64) -> u64
 
 // The coverage over 512 by a disc, at the distances a and b from its centre.
 fn chords_of(radius: u64, a: u64, b: u64) -> u64
-    requires { ⌜ (radius ≤ 255) × (a ≤ 8192) × (b ≤ 8192) ⌝ }
+    requires { ⌜ (radius ≤ radiusMost) × (a ≤ offsetMost + 1) × (b ≤ offsetMost + 1) ⌝ }
     ensures { λ r. ⌜ (r ≡ chords (heightOf radius) a b) × (r ≤ 512) ⌝ }
 {
     if a <= b {
@@ -158,7 +162,7 @@ fn chords_of(radius: u64, a: u64, b: u64) -> u64
 }
 
 // The coverage of a pixel by a disc.
-pub fn disc_ratio(disc: shapes::Disc, x: i16, y: i16) -> crate::Ratio
+pub(crate) fn disc_ratio(disc: shapes::Disc, x: i16, y: i16) -> crate::Ratio
     requires { ⌜ (shapeRefusal (asDisc disc) ≡ 0) × (inRange x ≡ true) × (inRange y ≡ true) ⌝ }
     ensures { λ r. ⌜ r ≡ ratioOf (asDisc disc) x y ⌝ }
 {
@@ -171,7 +175,7 @@ pub fn disc_ratio(disc: shapes::Disc, x: i16, y: i16) -> crate::Ratio
 }
 
 // The coverage of a pixel by a ring.
-pub fn ring_ratio(ring: shapes::Ring, x: i16, y: i16) -> crate::Ratio
+pub(crate) fn ring_ratio(ring: shapes::Ring, x: i16, y: i16) -> crate::Ratio
     requires { ⌜ (shapeRefusal (asRing ring) ≡ 0) × (inRange x ≡ true) × (inRange y ≡ true) ⌝ }
     ensures { λ r. ⌜ r ≡ ratioOf (asRing ring) x y ⌝ }
 {

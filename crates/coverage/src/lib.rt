@@ -25,10 +25,10 @@ fn query_refusal(shape: shapes::Shape, x: i16, y: i16) -> u8
         return 7;
     }
     let p = shapes::point_of(x, y);
-    if 8191 < p.x {
+    if numbers::OFFSET_MOST < p.x {
         return 7;
     }
-    if 8191 < p.y {
+    if numbers::OFFSET_MOST < p.y {
         return 7;
     }
     refusal

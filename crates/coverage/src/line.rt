@@ -4,12 +4,16 @@ ghost use Prim.Native.Nat.{_+_, _*_, _-_, _≤_, _<_};
 ghost use lib.IntN.{subℕ};
 ghost use Rattle.coverage.specs.Line.{rowOf, restOf};
 ghost use Rattle.coverage.specs.inner.Rows.{riseOf, cornerOf, rowsOf, wholeOf, atRow};
-ghost use Rattle.coverage.specs.inner.Frame.{exchangedBy, inOrder, Rising, Framed};
+ghost use Rattle.coverage.specs.inner.Frame.{rowOrigin, rowAt, exchangedBy, inOrder, Rising, Framed};
 ghost use Rattle.coverage.specs.Coverage.{ratioOf};
 ghost use Rattle.numbers.specs.Coordinate.{inRange};
+ghost use Rattle.numbers.specs.inner.Offset.{offsetMost};
 ghost use Rattle.shapes.specs.Limits.{shapeRefusal};
 ghost use Rattle.shapes.specs.declared.Shape.the-variants.{Line as asShape};
 ghost use mathlib.Core.Bool.{true, cond};
+
+// Row 0 of a frame is counted as this, so that no row is negative.
+pub const ROW_ORIGIN: u64 = 16384;
 
 // A line in its own frame: the spans l and s, whether x and y are exchanged, whether rows are mirrored, and the offsets of the
 // first end after the exchange.
@@ -101,7 +105,7 @@ fn either(first: bool, a: u64, b: u64) -> u64
 
 // The row and the rest of column i.
 pub fn crossing_at(l: u64, s: u64, i: u64) -> Crossing
-    requires { ⌜ (l ≤ 8191) × (s ≤ l) × (i < l) ⌝ }
+    requires { ⌜ (l ≤ offsetMost) × (s ≤ l) × (i < l) ⌝ }
     ensures { λ p. ⌜ (p .q ≡ rowOf l s i) × (p .r ≡ restOf l s i) × (p .q ≤ l) × (p .r < 2 * l) ⌝ }
 {
     let u = l + numbers::product(2 * s, i);
@@ -113,7 +117,7 @@ pub fn crossing_at(l: u64, s: u64, i: u64) -> Crossing
 
 // What the middle row of a column has whose upper row has nothing.
 fn rise(exact: bool, s: u64, r: u64) -> u64
-    requires { ⌜ (s ≤ 8191) × (r ≤ 16382) ⌝ }
+    requires { ⌜ (s ≤ offsetMost) × (r ≤ 2 * offsetMost) ⌝ }
     ensures { λ n. ⌜ n ≡ riseOf exact s r ⌝ }
 {
     if exact {
@@ -127,7 +131,7 @@ fn rise(exact: bool, s: u64, r: u64) -> u64
 
 // What an outer row has that the band covers to the height t at one side of the column.
 fn corner(exact: bool, t: u64) -> u64
-    requires { ⌜ t ≤ 16382 ⌝ }
+    requires { ⌜ t ≤ 2 * offsetMost ⌝ }
     ensures { λ n. ⌜ n ≡ cornerOf exact t ⌝ }
 {
     if exact { numbers::product(t, t) } else { t }
@@ -135,7 +139,7 @@ fn corner(exact: bool, t: u64) -> u64
 
 // The rows of a column that the band crosses in two rows, t at most 0.
 pub fn flat_rows(exact: bool, l: u64, s: u64, r: u64, d: u64) -> Rows
-    requires { ⌜ (l ≤ 8191) × (s ≤ l) × (r < 2 * l) × (r + 2 * s ≤ 2 * l) × (d ≡ wholeOf exact l s) ⌝ }
+    requires { ⌜ (l ≤ offsetMost) × (s ≤ l) × (r < 2 * l) × (r + 2 * s ≤ 2 * l) × (d ≡ wholeOf exact l s) ⌝ }
     ensures { λ c. ⌜ c ≡ rowsOf exact l s r ⌝ }
 {
     let n = rise(exact, s, r);
@@ -148,7 +152,7 @@ pub fn flat_rows(exact: bool, l: u64, s: u64, r: u64, d: u64) -> Rows
 
 // The rows of a column that the band crosses in three rows, or in two with t = 0.
 pub fn crossed_rows(exact: bool, l: u64, s: u64, r: u64, d: u64) -> Rows
-    requires { ⌜ (l ≤ 8191) × (s ≤ l) × (r < 2 * l) × (2 * l ≤ r + 2 * s) × (d ≡ wholeOf exact l s) ⌝ }
+    requires { ⌜ (l ≤ offsetMost) × (s ≤ l) × (r < 2 * l) × (2 * l ≤ r + 2 * s) × (d ≡ wholeOf exact l s) ⌝ }
     ensures { λ c. ⌜ c ≡ rowsOf exact l s r ⌝ }
 {
     let upper = corner(exact, r + 2 * s - 2 * l);
@@ -162,7 +166,7 @@ pub fn crossed_rows(exact: bool, l: u64, s: u64, r: u64, d: u64) -> Rows
 
 // The rows of a column under one of the rules.
 pub fn rows_of(exact: bool, l: u64, s: u64, r: u64, d: u64) -> Rows
-    requires { ⌜ (l ≤ 8191) × (s ≤ l) × (r < 2 * l) × (d ≡ wholeOf exact l s) ⌝ }
+    requires { ⌜ (l ≤ offsetMost) × (s ≤ l) × (r < 2 * l) × (d ≡ wholeOf exact l s) ⌝ }
     ensures { λ c. ⌜ c ≡ rowsOf exact l s r ⌝ }
 {
     if r + 2 * s < 2 * l {
@@ -174,7 +178,7 @@ pub fn rows_of(exact: bool, l: u64, s: u64, r: u64, d: u64) -> Rows
 
 // What the rows add up to, the denominator of the coverage.
 pub fn whole_of(exact: bool, l: u64, s: u64) -> u64
-    requires { ⌜ (l ≤ 8191) × (s ≤ l) ⌝ }
+    requires { ⌜ (l ≤ offsetMost) × (s ≤ l) ⌝ }
     ensures { λ d. ⌜ d ≡ wholeOf exact l s ⌝ }
 {
     if exact {
@@ -188,7 +192,7 @@ pub fn whole_of(exact: bool, l: u64, s: u64) -> u64
 
 // What the row g − base above row q has.
 fn row_at(rows: Rows, g: u64, base: u64) -> u64
-    requires { ⌜ g ≤ 65535 ⌝ }
+    requires { ⌜ g ≤ 2 * rowOrigin ⌝ }
     ensures { λ n. ⌜ n ≡ atRow rows (subℕ g base) ⌝ }
 {
     if g + 1 < base {
@@ -203,20 +207,20 @@ fn row_at(rows: Rows, g: u64, base: u64) -> u64
     }
 }
 
-// The row, in the frame, of a pixel whose offset across the longer span is b; 8,192 is row 0.
-fn biased_row(f: Frame, b: u64) -> u64
-    requires { ⌜ (f .y ≤ 8191) × (b ≤ 8191) ⌝ }
-    ensures { λ g. ⌜ g ≡ cond (f .falls) (f .y + 8191 - b) (b + 8192 - f .y) ⌝ }
+// The row, in the frame, of a pixel whose offset across the longer span is b.
+fn frame_row(f: Frame, b: u64) -> u64
+    requires { ⌜ (f .y ≤ offsetMost) × (b ≤ offsetMost) ⌝ }
+    ensures { λ g. ⌜ (g ≡ rowAt f b) × (g ≤ 2 * rowOrigin) ⌝ }
 {
     if f.falls {
-        f.y + 8191 - b
+        f.y + (ROW_ORIGIN - 1) - b
     } else {
-        b + 8192 - f.y
+        b + ROW_ORIGIN - f.y
     }
 }
 
 // The coverage of a pixel by a line.
-pub fn line_ratio(line: shapes::Line, x: i16, y: i16) -> crate::Ratio
+pub(crate) fn line_ratio(line: shapes::Line, x: i16, y: i16) -> crate::Ratio
     requires { ⌜ (shapeRefusal (asShape line) ≡ 0) × (inRange x ≡ true) × (inRange y ≡ true) ⌝ }
     ensures { λ r. ⌜ r ≡ ratioOf (asShape line) x y ⌝ }
 {
@@ -232,9 +236,9 @@ pub fn line_ratio(line: shapes::Line, x: i16, y: i16) -> crate::Ratio
     }
     let c = crossing_at(f.l, f.s, a - f.x);
     let rows = rows_of(line.exact, f.l, f.s, c.r, d);
-    let g = biased_row(f, either(f.steep, p.x, p.y));
+    let g = frame_row(f, either(f.steep, p.x, p.y));
     crate::Ratio {
-        n: row_at(rows, g, 8192 + c.q),
+        n: row_at(rows, g, ROW_ORIGIN + c.q),
         d,
     }
 }

@@ -3,42 +3,57 @@ use mathlib.Core.Bool.{Bool, true, false, cond}
 use mathlib.Core.Logic.{⊎-elim}
 use mathlib.Core.Path.{_≡_, ap, _∙_}
 use mathlib.Core.List.{List}
-use Prim.Native.Nat.{ℕ, _+_, _-_, _*_, _^_, _≤_, _<_}
+use Prim.Native.Nat.{ℕ, _+_, _-_, _*_, _≤_, _<_}
 use native.Mathlib.Nat.{eq-zero-or-pos}
 use native.Mathlib.Omega.{arith}
 use lib.Dec.{leb}
-use lib.ListN.{length, getD, set}
+use lib.ListN.{length}
 use borrow.Author.Tests.{le-leb, lt-ltb}
 use Rattle.numbers.specs.inner.Offset.{origin}
 use Rattle.coverage.specs.inner.Rows.{rowsOf, cutExcess}
 use Rattle.coverage.specs.declared.line.Frame.{Frame}
 use Rattle.coverage.specs.declared.line.Rows.{Rows}
-use Rattle.coverage.proofs.Closed.{rest-lt}
+use Rattle.coverage.specs.inner.Frame.{rowOrigin, Framed}
+use Rattle.coverage.specs.inner.OnPage.{shapeOn}
+use Rattle.shapes.specs.declared.Shape.the-variants.{Line as line}
+use Rattle.coverage.proofs.Closed.{rest-lt, row-le}
 use Rattle.coverage.proofs.Column.{Filled, filled as rows-filled}
-use Rattle.page.specs.inner.Ink.{inkOf}
-use Rattle.page.specs.Blend.{blend}
-use Rattle.page.specs.inner.Paint.{touch}
-use Rattle.lines.specs.inner.Layout.{alongEnd, shown, spotted, raised, lowered, columned, columnCount, Reachable, At, Advanced}
-use Rattle.lines.specs.inner.Stroke.{Prepared, Standing, Steppable, Inner, Stepped}
+use Rattle.page.specs.inner.Paint.{touch, Lawful, Drawn}
+use Rattle.lines.specs.inner.Layout.{alongEnd, strip, Laid, shown, spotted, raised, lowered, columned, columnCount, Reachable}
+use Rattle.lines.specs.inner.Stroke.{At, NextFits, Advanced, Standing, Steppable, Inner, Stepped}
 use Rattle.lines.specs.declared.layout.Layout.{Layout}
 use Rattle.lines.specs.declared.step.Step.{Step}
 use Rattle.lines.specs.declared.step.Stroke.{Stroke}
-use Rattle.lines.proofs.Advance.{advance, reachable, k-most}
-use Rattle.lines.proofs.Dots.{spotted-blend}
-use Rattle.lines.proofs.Columns.{Covers, rows-cover, one-column, layout-le, along-most}
+use Rattle.lines.proofs.RowPixel.{byte-on-page}
+use Rattle.lines.proofs.Column.{raised-byte, lowered-byte, column-drawn}
+use Rattle.lines.proofs.Advance.{advance, byte-least, byte-most}
+use Rattle.lines.proofs.Columns.{Covers, rows-cover, whole-fits, layout-le, along-most}
 
 module _ {s : Stroke} {size : ℕ} {at : Step} (here : Steppable s at size) where
-  ready : Prepared s size
-  ready = here .ready
-
-  stand : Standing s at
-  stand = here .standing
-
   abbrev f : Frame
   f = s .frame
 
   abbrev lay : Layout
   lay = s .layout
+
+  framed : Framed (s .line) f
+  framed = here .ready .framed
+
+  laid : Laid (s .view) f lay
+  laid = here .ready .laid
+
+  lawful : Lawful (s .view) size
+  lawful = here .ready .lawful
+
+  stand : Standing s at
+  stand = here .standing
+
+  is : At f lay at
+  is = stand .is
+
+  -- the frame's column
+  abbrev i : ℕ
+  i = at .p + origin - f .x
 
   end : at .p < alongEnd (s .view) f
   end = omega (arith, here .within .right)
@@ -46,74 +61,104 @@ module _ {s : Stroke} {size : ℕ} {at : Step} (here : Steppable s at size) wher
   last : at .p + origin < f .x + f .l
   last = omega (arith, here .within .last)
 
-  pub rest-less : at .r < 2 * f .l
-  rest-less = rw (stand .is .r-is) (rest-lt (f .l) (f .s) (at .p + origin - f .x) (ready .framed .long))
+  row-least : 0 < at .g
+  row-least = omega (arith, is .g-is)
+
+  row-most : at .g + 1 < 2 * rowOrigin
+  row-most = omega (arith, is .g-is, row-le (f .l) (f .s) i (framed .short) (omega (arith, last, stand .first)), framed .right)
+
+  column-most : at .p ≤ 1024
+  column-most = along-most (s .view) f size (at .p) lawful (omega (arith, end))
+
+  byte-small : at .k ≤ 134217728
+  byte-small =
+      let o = layout-le (s .view) f lay size lawful laid in
+      rw (is .k-is) (byte-most (f .falls) (at .p) (f .y) (at .g) (lay .along) (lay .across) column-most (framed .high) row-most (o .0) (o .1))
 
   pub reaches : Reachable lay (at .k) (at .g) size
   reaches =
-      reachable (s .view) (s .line) f lay size (at .p) (at .k) (at .g) (at .r) (ready .lawful) (ready .framed) (ready .laid) (stand .left) end (stand .first) last
-      (stand .is)
+      let on = byte-on-page (s .view) f lay size (at .p) lawful laid (framed .high) (stand .left) end in
+      let up = ap (raised lay) (is .k-is) ∙ raised-byte f lay (laid .falls-is) (at .p) (at .g) row-least row-most in
+      let low = ap (lowered lay) (is .k-is) ∙ lowered-byte f lay (laid .falls-is) (at .p) (at .g) row-least row-most in
+      record {
+        least = rw (is .k-is) (byte-least (f .falls) (f .y) (at .g) ((at .p + origin) * lay .along) (lay .across) row-least row-most);
+        most = omega (arith, byte-small, layout-le (s .view) f lay size lawful laid .1);
+        row-least = row-least;
+        row-most = row-most;
+        upper = λ e. rw up (on (at .g + 1) e);
+        middle = λ e. rw (is .k-is) (on (at .g) e);
+        lower = λ e. rw low (on (at .g - 1) e);
+      }
 
+  -- the rows of the column
   abbrev rowsHere : Rows
   rowsHere = rowsOf (s .line .exact) (f .l) (f .s) (at .r)
 
   filled : Filled (cutExcess (f .l) (f .s) (at .r)) (s .d) rowsHere
-  filled = rw (ready .d-is, stand .is .r-is) (rows-filled (s .line .exact) (f .l) (f .s) (at .p + origin - f .x) (ready .framed .long) (ready .framed .short))
+  filled = rw (here .ready .d-is, is .r-is) (rows-filled (s .line .exact) (f .l) (f .s) i (framed .long) (framed .short))
 
   pub covers : Covers rowsHere (s .d)
-  covers =
-      rw (ready .d-is)
-      (rows-cover (cutExcess (f .l) (f .s) (at .r)) (f .l) (f .s) (s .line .exact) rowsHere (ready .framed .long) (ready .framed .short) (omega (arith, ready .framed .right)) (rw (ready .d-is) at filled))
+  covers = rows-cover filled (rw (here .ready .d-is) (whole-fits (s .line .exact) (f .l) (f .s) (framed .long) (framed .short) (omega (arith, framed .right))))
 
   -- what the next column asks
-  pub advances : (f .l ≤ 8191) × (f .s ≤ f .l) × (at .r < 2 * f .l) × (lay .across ≤ at .k) × (at .k + lay .across + lay .along < 2 ^ 63) × (at .g ≤ 65535) × (at .p ≤ 1024) × (at .touched ≤ 65535)
+  pub advances : NextFits lay f at
   advances =
-      let o = layout-le (s .view) f lay size (ready .lawful) (ready .laid) in
-      let k = k-most (s .view) (s .line) f lay size (at .p) (at .k) (at .g) (at .r) (ready .lawful) (ready .framed) (ready .laid) (stand .left) end (stand .first) last (stand .is) in
-      let p : at .p ≤ 1024 = along-most (s .view) f size (at .p) (ready .lawful) (omega arith) in
-      (omega (arith, ready .framed .right), ready .framed .short, rest-less, reaches .least, omega (arith, o .0, o .1), omega (arith, reaches .row-most), p, omega (arith, stand .few))
-
-  pub stepped : (t : ℕ) (rows : Rows) (to : Step) (l m : List ℕ) → rows ≡ rowsHere → length l ≡ size
-      → Advanced lay (2 * f .l) (2 * f .s) (at .k) (at .g) (at .r) (to .k) (to .g) (to .r)
-      → to .p ≡ at .p + 1
-      → to .touched ≡ at .touched + t
-      → m ≡ columned lay (inkOf (s .level) (s .d)) rows (at .k) (at .g) l
-      → t ≡ columnCount lay rows (at .g)
-      → t ≤ 3
-      → Stepped s at to l m
-  stepped t rows to l m rows-is same adv p-is touched-is m-is t-is few =
-      let apart : to .touched - at .touched ≡ t = omega arith in
       record {
-        p-is = p-is;
-        rises = rw (adv .g-is) (up (leb (2 * f .l) (at .r + 2 * f .s)) (at .g));
-        extended =
-            record {
-              order = omega arith;
-              more = omega arith;
-              drawn = rw (apart, p-is, m-is, t-is) (one-column (s .view) (s .line) f lay size (at .p) (at .k) (at .g) (at .r) (s .level) (s .d) rows (ready .lawful) (ready .framed) (ready .laid) (stand .left) end (stand .first) last (stand .is) rows-is (ready .d-is) l same);
-              standing = record { is = rw p-is next; left = omega (arith, stand .left); first = omega (arith, stand .first); few = omega (arith, stand .few) };
-            };
+        long = omega (arith, framed .right);
+        short = framed .short;
+        rest = rw (is .r-is) (rest-lt (f .l) (f .s) i (framed .long));
+        least = reaches .least;
+        most = omega (arith, byte-small, layout-le (s .view) f lay size lawful laid);
+        row = omega (arith, row-most);
+        column = column-most;
+        few = omega (arith, stand .few, column-most);
       }
-    where
-      up : (b : Bool) (g : ℕ) → g ≤ cond b (g + 1) g
-      up true g = omega arith
-      up false g = omega arith
 
-      next : At f lay (at .p + 1) (to .k) (to .g) (to .r)
-      next =
-          advance f lay (at .p) (at .k) (at .g) (at .r) (to .k) (to .g) (to .r) (ready .framed .long) (ready .framed .short) (omega (arith, ready .framed .right)) (stand .first) last (ready .laid .falls-is) (stand .is)
-          adv
+  module _ (ink : ℕ → ℕ → ℕ) (rows : Rows) (l : List ℕ) (rows-is : rows ≡ rowsHere) (same : length l ≡ size) where
+    column : Drawn (s .view .w) (s .view .h) ink (strip (s .view) f (at .p) (at .p + 1) (shapeOn (line (s .line)))) l (columned lay ink rows (at .k) (at .g) l) (columnCount lay rows (at .g))
+    column =
+        rw (rows-is, is .r-is, is .g-is)
+        (column-drawn (s .view) (s .line) f lay size (at .p) lawful framed laid (stand .left) end (stand .first) last ink (at .k) l (omega (arith, lawful .room)) (rw (is .g-is) at (is .k-is)))
+
+    pub stepped : (t : ℕ) (to : Step) (m : List ℕ) → Advanced lay f t at to → m ≡ columned lay ink rows (at .k) (at .g) l → t ≡ columnCount lay rows (at .g) → t ≤ 3
+        → Stepped ink s at to l m
+    stepped t to m next m-is t-is few =
+        let apart : to .touched - at .touched ≡ t = omega (arith, next .touched-is) in
+        record {
+          p-is = next .p-is;
+          rises = rw (next .g-is) (up (leb (2 * f .l) (at .r + 2 * f .s)) (at .g));
+          extended =
+              record {
+                order = omega (arith, next .p-is);
+                more = omega (arith, next .touched-is);
+                drawn = rw (apart, next .p-is, m-is, t-is) column;
+                standing =
+                    record {
+                      is = advance (framed .long) (framed .short) (omega (arith, framed .right)) (stand .first) last (laid .falls-is) is next;
+                      left = omega (arith, stand .left, next .p-is);
+                      first = omega (arith, stand .first, next .p-is);
+                      few = omega (arith, stand .few, next .p-is, next .touched-is);
+                    };
+              };
+        }
+      where
+        up : (b : Bool) (g : ℕ) → g ≤ cond b (g + 1) g
+        up true g = omega arith
+        up false g = omega arith
 
   -- inside the clip
   module _ (inner : Inner s at) where
+    is-shown : (g : ℕ) → at .g ≤ g + 1 → g ≤ at .g + 1 → shown lay g ≡ true
+    is-shown g h k = rw (le-leb (lay .low) g (omega (arith, inner .above-low)), lt-ltb g (lay .high) (omega (arith, inner .below-high)))
+
     upper-shown : shown lay (at .g + 1) ≡ true
-    upper-shown = rw (le-leb (lay .low) (at .g + 1) (omega (arith, inner .above-low)), lt-ltb (at .g + 1) (lay .high) (omega (arith, inner .below-high)))
+    upper-shown = is-shown (at .g + 1) (omega arith) (omega arith)
 
     middle-shown : shown lay (at .g) ≡ true
-    middle-shown = rw (le-leb (lay .low) (at .g) (omega (arith, inner .above-low)), lt-ltb (at .g) (lay .high) (omega (arith, inner .below-high)))
+    middle-shown = is-shown (at .g) (omega arith) (omega arith)
 
     lower-shown : shown lay (at .g - 1) ≡ true
-    lower-shown = rw (le-leb (lay .low) (at .g - 1) (omega (arith, inner .above-low)), lt-ltb (at .g - 1) (lay .high) (omega (arith, inner .below-high)))
+    lower-shown = is-shown (at .g - 1) (omega arith) (omega arith)
 
     pub upper-byte : (lay .origin ≤ raised lay (at .k)) × (raised lay (at .k) - lay .origin < size)
     upper-byte = reaches .upper upper-shown
@@ -124,20 +169,17 @@ module _ {s : Stroke} {size : ℕ} {at : Step} (here : Steppable s at size) wher
     pub lower-byte : (lay .origin ≤ lowered lay (at .k)) × (lowered lay (at .k) - lay .origin < size)
     lower-byte = reaches .lower lower-shown
 
-    -- the upper row, where it has something, and the two others by puts
-    pub inner-stepped : (t : ℕ) (rows : Rows) (to : Step) (l l₁ l₂ m : List ℕ) → rows ≡ rowsHere → length l ≡ size
-        → Advanced lay (2 * f .l) (2 * f .s) (at .k) (at .g) (at .r) (to .k) (to .g) (to .r)
-        → to .p ≡ at .p + 1
-        → to .touched ≡ at .touched + (t + 2)
+    -- the upper row, where it has something, and the two others, which always have
+    pub inner-stepped : (ink : ℕ → ℕ → ℕ) (t : ℕ) (rows : Rows) (to : Step) (l l₁ l₂ m : List ℕ) → rows ≡ rowsHere → length l ≡ size
+        → Advanced lay f (t + 2) at to
         → t ≡ touch (rows .upper)
-        → l₁ ≡ spotted true (inkOf (s .level) (s .d)) (rows .upper) (raised lay (at .k) - lay .origin) l
-        → l₂ ≡ set l₁ (at .k - lay .origin) (blend (getD l₁ (at .k - lay .origin) 0) (s .level) (rows .middle) (s .d))
-        → m ≡ set l₂ (lowered lay (at .k) - lay .origin) (blend (getD l₂ (lowered lay (at .k) - lay .origin) 0) (s .level) (rows .lower) (s .d))
-        → Stepped s at to l m
-    inner-stepped t rows to l l₁ l₂ m rows-is same adv p-is touched-is t-is e₁ e₂ e₃ =
-        let some = covers .middle .some in
-        stepped (t + 2) rows to l m rows-is same adv p-is touched-is
-        (rw (upper-shown, middle-shown, lower-shown) (e₃ ∙ spotted-blend (s .level) (s .d) (rows .lower) (lowered lay (at .k) - lay .origin) l₂ some ∙ ap (spotted true (inkOf (s .level) (s .d)) (rows .lower) (lowered lay (at .k) - lay .origin)) (e₂ ∙ spotted-blend (s .level) (s .d) (rows .middle) (at .k - lay .origin) l₁ some ∙ ap (spotted true (inkOf (s .level) (s .d)) (rows .middle) (at .k - lay .origin)) e₁)))
+        → l₁ ≡ spotted true ink (rows .upper) (raised lay (at .k) - lay .origin) l
+        → l₂ ≡ spotted true ink (rows .middle) (at .k - lay .origin) l₁
+        → m ≡ spotted true ink (rows .lower) (lowered lay (at .k) - lay .origin) l₂
+        → Stepped ink s at to l m
+    inner-stepped ink t rows to l l₁ l₂ m rows-is same next t-is e₁ e₂ e₃ =
+        stepped ink rows l rows-is same (t + 2) to m next
+        (rw (upper-shown, middle-shown, lower-shown) (e₃ ∙ rw (e₂, e₁)))
         (rw (upper-shown, middle-shown, lower-shown) (omega (arith, middle-some, lower-some)))
         (omega arith)
       where
@@ -147,6 +189,7 @@ module _ {s : Stroke} {size : ℕ} {at : Step} (here : Steppable s at size) wher
         lower-some : 0 < rows .lower
         lower-some = rw rows-is (filled .lower-touched)
 
+    -- where the rest and 2s do not come to 2l, the upper row has nothing
     pub flat-upper : (rows : Rows) → rows ≡ rowsHere → at .r + 2 * f .s < 2 * f .l → rows .upper ≡ 0
     flat-upper rows e h = let z = filled .upper-touched .0 in rw e (none z (omega arith))
       where

@@ -1,25 +1,40 @@
 -- Laws of strips: the columns of a line's frame under a clip.
 use mathlib.Core.Bool.{Bool, true, false, cond}
-use mathlib.Core.Path.{_≡_, sym, ap, _∙_}
+use mathlib.Core.Path.{_≡_, refl, sym, _∙_}
 use mathlib.Core.Logic.{_⊎_, inl, inr, ⊎-elim}
 use Prim.Native.Nat.{ℕ, _+_, _-_, _≤_, _<_, max, min}
 use native.Mathlib.Omega.{arith}
 use lib.IntN.{pos, subℕ}
 use Rattle.numbers.specs.inner.Offset.{origin, offsetOf}
 use Rattle.numbers.proofs.Order.{lt-or-le}
-use Rattle.numbers.proofs.Integer.{sub-same}
 use Rattle.numbers.proofs.Coordinate.{InRange, in-range, pixel-in, pixel-offset}
 use Rattle.shapes.specs.declared.Line.{Line}
 use Rattle.coverage.specs.Line.{rowOf, restOf}
+use Rattle.shapes.specs.declared.Shape.the-variants.{Line as line}
+use Rattle.coverage.specs.inner.OnPage.{shapeOn}
 use Rattle.coverage.specs.inner.Rows.{rowsOf, atRow}
-use Rattle.coverage.specs.inner.Frame.{Framed}
+use Rattle.coverage.specs.inner.Frame.{Framed, rowOrigin}
 use Rattle.coverage.specs.declared.line.Frame.{Frame}
 use Rattle.coverage.specs.declared.line.Rows.{Rows}
 use Rattle.coverage.proofs.Pixel.{drawn-left, drawn-right, drawn-inside}
-use Rattle.page.specs.inner.Paint.{clipped, inView, Lawful}
+use Rattle.page.specs.inner.Paint.{clipped, inView}
 use Rattle.page.specs.declared.View.{View}
-use Rattle.page.proofs.Clip.{Inside, Outside, in-or-out, left-of, right-of, above, below, clip-in, clip-out, clip-shrink, clip-columns, clip-rows, Join}
-use Rattle.lines.specs.inner.Layout.{lineOn, alongFrom, alongEnd, strip, rowAt}
+use Rattle.page.proofs.Clip.{in-or-out, clip-in, clip-out, clip-columns, clip-rows, Join}
+use Rattle.lines.specs.inner.Layout.{alongOf, acrossOf, alongFrom, alongEnd, acrossFrom, acrossEnd, Columns, strip, rowOn}
+
+-- a pixel in the columns p to e, under the clip
+pub record InStrip (c : View) (f : Frame) (p e x y : ℕ) : Type 0 where
+  pub least : p ≤ alongOf f x y
+  pub less : alongOf f x y < e
+  pub low : acrossFrom c f ≤ acrossOf f x y
+  pub high : acrossOf f x y < acrossEnd c f
+
+pub strip-small : {c : View} {f : Frame} {p e x y : ℕ} → InStrip c f p e x y → e ≤ alongEnd c f → (x < c .x1) × (y < c .y1)
+strip-small {c} {f} {p} {e} {x} {y} i h = by (f .steep) (omega (arith, i .less)) (i .high)
+  where
+    by : (t : Bool) → cond t y x < cond t (c .y1) (c .x1) → cond t x y < cond t (c .x1) (c .y1) → (x < c .x1) × (y < c .y1)
+    by true a b = (b, a)
+    by false a b = (a, b)
 
 -- ---- strips of any coverage
 module _ (c : View) (f : Frame) (n : ℕ → ℕ → ℕ) where
@@ -35,64 +50,56 @@ module _ (c : View) (f : Frame) (n : ℕ → ℕ → ℕ) where
       go true = clip-rows (c .x0) p (c .x1) e q n h k
       go false = clip-columns p (c .y0) e (c .y1) q n h k
 
-  pub strip-none : (p : ℕ) (x y : ℕ) → strip c f p p n x y ≡ 0
+  -- a strip has the coverage of the pixels in it, and 0 elsewhere
+  pub strip-in : (p e x y : ℕ) → InStrip c f p e x y → strip c f p e n x y ≡ n x y
   unfolding strip
-  strip-none p x y = go (f .steep)
+  strip-in p e x y i = go (f .steep) (i .least) (i .less) (i .low) (i .high)
     where
-      go : (t : Bool) → cond t (clipped (c .x0) p (c .x1) p n) (clipped p (c .y0) p (c .y1) n) x y ≡ 0
-      go true = ⊎-elim (λ h. clip-out (c .x0) p (c .x1) p n x y (above h)) (λ h. clip-out (c .x0) p (c .x1) p n x y (below h)) (lt-or-le y p)
-      go false = ⊎-elim (λ h. clip-out p (c .y0) p (c .y1) n x y (left-of h)) (λ h. clip-out p (c .y0) p (c .y1) n x y (right-of h)) (lt-or-le x p)
+      go : (t : Bool) → p ≤ cond t y x → cond t y x < e → cond t (c .x0) (c .y0) ≤ cond t x y → cond t x y < cond t (c .x1) (c .y1)
+          → cond t (clipped (c .x0) p (c .x1) e n) (clipped p (c .y0) e (c .y1) n) x y ≡ n x y
+      go true a b l h = clip-in (c .x0) p (c .x1) e n x y (record { left = l; right = h; top = a; bottom = b })
+      go false a b l h = clip-in p (c .y0) e (c .y1) n x y (record { left = a; right = b; top = l; bottom = h })
 
-  -- the whole clip is the strip of the columns outside which the coverage is 0
+  pub in-or-none : (p e x y : ℕ) → InStrip c f p e x y ⊎ (strip c f p e n x y ≡ 0)
+  unfolding strip
+  in-or-none p e x y = ⊎-elim (λ i. inl (record { least = i .0; less = i .1; low = i .2; high = i .3 })) (λ z. inr z) (go (f .steep))
+    where
+      go : (t : Bool) → ((p ≤ cond t y x) × (cond t y x < e) × (cond t (c .x0) (c .y0) ≤ cond t x y) × (cond t x y < cond t (c .x1) (c .y1)))
+          ⊎ (cond t (clipped (c .x0) p (c .x1) e n) (clipped p (c .y0) e (c .y1) n) x y ≡ 0)
+      go true = ⊎-elim (λ i. inl (i .top, i .bottom, i .left, i .right)) (λ o. inr (clip-out (c .x0) p (c .x1) e n x y o)) (in-or-out (c .x0) p (c .x1) e x y)
+      go false = ⊎-elim (λ i. inl (i .left, i .right, i .top, i .bottom)) (λ o. inr (clip-out p (c .y0) e (c .y1) n x y o)) (in-or-out p (c .y0) e (c .y1) x y)
+
+  pub strip-none : (p e : ℕ) → e ≤ p → (x y : ℕ) → strip c f p e n x y ≡ 0
+  strip-none p e h x y = ⊎-elim (λ i. absurd (omega (arith, i .least, i .less))) (λ z. z) (in-or-none p e x y)
+
+  -- the clip is the strip of all its columns
+  strip-view : (x y : ℕ) → strip c f (alongFrom c f) (alongEnd c f) n x y ≡ inView c n x y
+  unfolding strip
+  strip-view x y = by (f .steep)
+    where
+      by : (t : Bool) → let from = cond t (c .y0) (c .x0) in let end = cond t (c .y1) (c .x1) in
+          cond t (clipped (c .x0) from (c .x1) end n) (clipped from (c .y0) end (c .y1) n) x y ≡ inView c n x y
+      by true = refl
+      by false = refl
+
+  -- and so of those outside which the coverage is 0
   pub strip-whole : (p e : ℕ) → alongFrom c f ≤ p → e ≤ alongEnd c f
-      → ((x y : ℕ) → Inside (c .x0) (c .y0) (c .x1) (c .y1) x y → (cond (f .steep) y x < p) ⊎ (e ≤ cond (f .steep) y x) → n x y ≡ 0)
+      → ((x y : ℕ) → InStrip c f (alongFrom c f) (alongEnd c f) x y → (alongOf f x y < p) ⊎ (e ≤ alongOf f x y) → n x y ≡ 0)
       → (x y : ℕ) → strip c f p e n x y ≡ inView c n x y
-  unfolding strip
-  strip-whole p e h k none = go (f .steep) h k none
+  strip-whole p e h k none x y = ⊎-elim inside outside (in-or-none (alongFrom c f) (alongEnd c f) x y) ∙ strip-view x y
     where
-      go : (t : Bool) → cond t (c .y0) (c .x0) ≤ p → e ≤ cond t (c .y1) (c .x1)
-          → ((x y : ℕ) → Inside (c .x0) (c .y0) (c .x1) (c .y1) x y → (cond t y x < p) ⊎ (e ≤ cond t y x) → n x y ≡ 0)
-          → (x y : ℕ) → cond t (clipped (c .x0) p (c .x1) e n) (clipped p (c .y0) e (c .y1) n) x y ≡ inView c n x y
-      go true h k none =
-          clip-shrink (c .x0) (c .y0) (c .x1) (c .y1) (c .x0) p (c .x1) e n (omega arith) h (omega arith) k
-          (λ x y i o. none x y i (beyond i o))
+      inside : InStrip c f (alongFrom c f) (alongEnd c f) x y → strip c f p e n x y ≡ strip c f (alongFrom c f) (alongEnd c f) n x y
+      inside i = ⊎-elim (strip-in p e x y) (λ z. z ∙ sym (beyond z (lt-or-le (alongOf f x y) p) (lt-or-le (alongOf f x y) e))) (in-or-none p e x y) ∙ sym (strip-in _ _ x y i)
         where
-          beyond : {x y : ℕ} → Inside (c .x0) (c .y0) (c .x1) (c .y1) x y → Outside (c .x0) p (c .x1) e x y → (y < p) ⊎ (e ≤ y)
-          beyond i (left-of z) = absurd (omega (arith, i .left))
-          beyond i (right-of z) = absurd (omega (arith, i .right))
-          beyond i (above z) = inl z
-          beyond i (below z) = inr z
-      go false h k none =
-          clip-shrink (c .x0) (c .y0) (c .x1) (c .y1) p (c .y0) e (c .y1) n h (omega arith) k (omega arith)
-          (λ x y i o. none x y i (beyond i o))
-        where
-          beyond : {x y : ℕ} → Inside (c .x0) (c .y0) (c .x1) (c .y1) x y → Outside p (c .y0) e (c .y1) x y → (x < p) ⊎ (e ≤ x)
-          beyond i (left-of z) = inl z
-          beyond i (right-of z) = inr z
-          beyond i (above z) = absurd (omega (arith, i .top))
-          beyond i (below z) = absurd (omega (arith, i .bottom))
+          beyond : strip c f p e n x y ≡ 0 → (alongOf f x y < p) ⊎ (p ≤ alongOf f x y) → (alongOf f x y < e) ⊎ (e ≤ alongOf f x y) → n x y ≡ 0
+          beyond z (inl a) b = none x y i (inl a)
+          beyond z (inr a) (inr b) = none x y i (inr b)
+          beyond z (inr a) (inl b) = sym (strip-in p e x y (record { least = a; less = b; low = i .low; high = i .high })) ∙ z
 
--- a pixel of one column, or one without coverage
-pub data InColumn (c : View) (f : Frame) (p : ℕ) (n : ℕ → ℕ → ℕ) (x y : ℕ) : Type 0 where
-  inside : cond (f .steep) y x ≡ p → x < c .x1 → y < c .y1 → strip c f p (p + 1) n x y ≡ n x y → InColumn c f p n x y
-  outside : strip c f p (p + 1) n x y ≡ 0 → InColumn c f p n x y
-
-in-column′ : (c : View) (l s : ℕ) (steep falls : Bool) (fx fy p : ℕ) (n : ℕ → ℕ → ℕ) (x y : ℕ) → p < cond steep (c .y1) (c .x1)
-    → InColumn c (record { l = l; s = s; steep = steep; falls = falls; x = fx; y = fy }) p n x y
-unfolding strip
-in-column′ c l s true falls fx fy p n x y h = go (in-or-out (c .x0) p (c .x1) (p + 1) x y)
-  where
-    go : Inside (c .x0) p (c .x1) (p + 1) x y ⊎ Outside (c .x0) p (c .x1) (p + 1) x y → InColumn c (record { l = l; s = s; steep = true; falls = falls; x = fx; y = fy }) p n x y
-    go (inl i) = inside (omega (arith, i .top, i .bottom)) (i .right) (omega (arith, i .bottom)) (clip-in (c .x0) p (c .x1) (p + 1) n x y i)
-    go (inr o) = outside (clip-out (c .x0) p (c .x1) (p + 1) n x y o)
-in-column′ c l s false falls fx fy p n x y h = go (in-or-out p (c .y0) (p + 1) (c .y1) x y)
-  where
-    go : Inside p (c .y0) (p + 1) (c .y1) x y ⊎ Outside p (c .y0) (p + 1) (c .y1) x y → InColumn c (record { l = l; s = s; steep = false; falls = falls; x = fx; y = fy }) p n x y
-    go (inl i) = inside (omega (arith, i .left, i .right)) (omega (arith, i .right)) (i .bottom) (clip-in p (c .y0) (p + 1) (c .y1) n x y i)
-    go (inr o) = outside (clip-out p (c .y0) (p + 1) (c .y1) n x y o)
-
-pub in-column : (c : View) (f : Frame) (p : ℕ) (n : ℕ → ℕ → ℕ) (x y : ℕ) → p < alongEnd c f → InColumn c f p n x y
-in-column c f p n x y h = in-column′ c (f .l) (f .s) (f .steep) (f .falls) (f .x) (f .y) p n x y h
+      outside : strip c f (alongFrom c f) (alongEnd c f) n x y ≡ 0 → strip c f p e n x y ≡ strip c f (alongFrom c f) (alongEnd c f) n x y
+      outside o =
+          ⊎-elim (λ i. strip-in p e x y i ∙ sym (strip-in _ _ x y (record { least = omega (arith, i .least); less = omega (arith, i .less); low = i .low; high = i .high })))
+          (λ z. z ∙ sym o) (in-or-none p e x y)
 
 -- ---- a line's coverage
 module _ {n : Line} {f : Frame} (g : Framed n f) (x y : ℕ) (hx : x ≤ 4095) (hy : y ≤ 4095) where
@@ -103,7 +110,7 @@ module _ {n : Line} {f : Frame} (g : Framed n f) (x y : ℕ) (hx : x ≤ 4095) (
   py = in-range (pos y) (pixel-in y hy)
 
   abbrev a : ℕ
-  a = cond (f .steep) y x
+  a = alongOf f x y
 
   along-offset : cond (f .steep) (offsetOf (pos y)) (offsetOf (pos x)) ≡ a + origin
   along-offset = by (f .steep)
@@ -112,7 +119,7 @@ module _ {n : Line} {f : Frame} (g : Framed n f) (x y : ℕ) (hx : x ≤ 4095) (
       by true = pixel-offset y hy
       by false = pixel-offset x hx
 
-  across-offset : cond (f .steep) (offsetOf (pos x)) (offsetOf (pos y)) ≡ cond (f .steep) x y + origin
+  across-offset : cond (f .steep) (offsetOf (pos x)) (offsetOf (pos y)) ≡ acrossOf f x y + origin
   across-offset = by (f .steep)
     where
       by : (t : Bool) → cond t (offsetOf (pos x)) (offsetOf (pos y)) ≡ cond t x y + origin
@@ -120,23 +127,11 @@ module _ {n : Line} {f : Frame} (g : Framed n f) (x y : ℕ) (hx : x ≤ 4095) (
       by false = pixel-offset y hy
 
   -- 0 left and right of its columns
-  pub line-left : a + origin < f .x → lineOn n x y ≡ 0
+  pub line-left : a + origin < f .x → shapeOn (line n) x y ≡ 0
   line-left h = sym (drawn-left g px py (rw along-offset h))
 
-  pub line-right : f .x + f .l ≤ a + origin → lineOn n x y ≡ 0
+  pub line-right : f .x + f .l ≤ a + origin → shapeOn (line n) x y ≡ 0
   line-right h = sym (drawn-right g px py (rw along-offset h))
-
-  -- rows counted from 16,384 instead of 8,192
-  row-shift : rowAt f x y ≡ cond (f .falls) (f .y + 8191 - (cond (f .steep) x y + origin)) (cond (f .steep) x y + origin + 8192 - f .y) + 8192
-  row-shift = by (f .falls) (cond (f .steep) x y) (most (f .steep))
-    where
-      most : (t : Bool) → cond t x y ≤ 4095
-      most true = hx
-      most false = hy
-
-      by : (t : Bool) (b : ℕ) → b ≤ 4095 → cond t (f .y + 12287 - b) (b + 20480 - f .y) ≡ cond t (f .y + 8191 - (b + origin)) (b + origin + 8192 - f .y) + 8192
-      by true b h = omega arith
-      by false b h = omega (arith, g .high)
 
   -- in its columns, what the closed rows have
   abbrev i : ℕ
@@ -146,50 +141,24 @@ module _ {n : Line} {f : Frame} (g : Framed n f) (x y : ℕ) (hx : x ≤ 4095) (
   rows = rowsOf (n .exact) (f .l) (f .s) (restOf (f .l) (f .s) i)
 
   pub line-inside : f .x ≤ a + origin → a + origin < f .x + f .l
-      → lineOn n x y
-      ≡ atRow rows (subℕ (rowAt f x y) (16384 + rowOf (f .l) (f .s) i))
-  line-inside h k =
-      let q : ℕ = rowOf (f .l) (f .s) i in
-      let low : ℕ = cond (f .falls) (f .y + 8191 - (cond (f .steep) x y + origin)) (cond (f .steep) x y + origin + 8192 - f .y) in
-      let e = drawn-inside g px py (rw along-offset h) (rw along-offset k) in
-      sym (rw (along-offset, across-offset) at e) ∙ ap (atRow rows) (sub-same low (8192 + q) (rowAt f x y) (16384 + q) (omega (arith, row-shift)))
+      → shapeOn (line n) x y
+      ≡ atRow rows (subℕ (rowOn f x y) (rowOrigin + rowOf (f .l) (f .s) i))
+  line-inside h k = sym (rw (along-offset, across-offset) at (drawn-inside g px py (rw along-offset h) (rw along-offset k)))
 
 -- ---- a line lies in its own columns
 
--- an inside pixel left of the first common column, or from the last on, is off the line
-pub line-beyond : (c : View) (n : Line) (f : Frame) (size : ℕ) → Lawful c size → Framed n f → (from end : ℕ)
+-- a pixel of the clip that is left of the first common column, or from the last on, is off the line
+pub common-columns : (c : View) (f : Frame) → c .x1 ≤ 1024 → c .y1 ≤ 1024 → (from end : ℕ)
     → from ≡ max (alongFrom c f) (f .x - origin)
     → end ≡ min (alongEnd c f) (f .x + f .l - origin)
-    → (x y : ℕ)
-    → Inside (c .x0) (c .y0) (c .x1) (c .y1) x y
-    → (cond (f .steep) y x < from) ⊎ (end ≤ cond (f .steep) y x)
-    → lineOn n x y ≡ 0
-line-beyond c n f size w g from end ef ee x y i o = go o
+    → (n : Line) → Framed n f → Columns c n f from end
+common-columns c f wide tall from end ef ee n g =
+    record {
+      between = λ h. record { some = h; left = omega arith; first = omega arith; end = record { right = omega arith; last = omega arith } };
+      whole = strip-whole c f (shapeOn (line n)) from end (omega arith) (omega arith) none;
+    }
   where
-    hx : x ≤ 4095
-    hx = omega (arith, i .right, w .x-most, w .w-most)
-
-    hy : y ≤ 4095
-    hy = omega (arith, i .bottom, w .y-most, w .h-most)
-
-    low : alongFrom c f ≤ cond (f .steep) y x
-    low = by (f .steep)
-      where
-        by : (t : Bool) → cond t (c .y0) (c .x0) ≤ cond t y x
-        by true = i .top
-        by false = i .left
-
-    high : cond (f .steep) y x < alongEnd c f
-    high = by (f .steep)
-      where
-        by : (t : Bool) → cond t y x < cond t (c .y1) (c .x1)
-        by true = i .bottom
-        by false = i .right
-
-    go : (cond (f .steep) y x < from) ⊎ (end ≤ cond (f .steep) y x) → lineOn n x y ≡ 0
-    go (inl h) = line-left g x y hx hy (omega (arith, low))
-    go (inr h) = line-right g x y hx hy (omega (arith, high))
-
--- where no column is common, every column is beyond
-pub either-side : (from end a : ℕ) → end ≤ from → (a < from) ⊎ (end ≤ a)
-either-side from end a h = ⊎-elim (λ k. inl k) (λ k. inr (omega arith)) (lt-or-le a from)
+    none : (x y : ℕ) → InStrip c f (alongFrom c f) (alongEnd c f) x y → (alongOf f x y < from) ⊎ (end ≤ alongOf f x y) → shapeOn (line n) x y ≡ 0
+    none x y i o =
+        let s = strip-small i (omega arith) in
+        ⊎-elim (λ h. line-left g x y (omega arith) (omega arith) (omega (arith, i .least))) (λ h. line-right g x y (omega arith) (omega arith) (omega (arith, i .less))) o

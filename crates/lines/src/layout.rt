@@ -4,10 +4,21 @@ use page::View;
 ghost use mathlib.Core.Bool.{cond};
 ghost use mathlib.Core.Path.{_≡_};
 ghost use Prim.Native.Nat.{_+_, _^_, _≤_, _<_};
+ghost use Rattle.numbers.specs.inner.Offset.{offsetMost};
 ghost use Rattle.lines.specs.inner.Layout.{Laid, shown, raised, lowered};
 
 // The offset of coordinate 0, as an index.
 pub const ORIGIN: usize = numbers::ORIGIN as usize;
+
+// Row 0 of a frame, as an index.
+pub const ROW_ORIGIN: usize = coverage::line::ROW_ORIGIN as usize;
+
+// The last row; the row of pixel 0 over a first end at offset 0; and the same where rows are mirrored.
+pub const LAST_ROW: usize = 2 * ROW_ORIGIN - 1;
+
+const RAISED: usize = ROW_ORIGIN + ORIGIN;
+
+const MIRRORED: usize = ROW_ORIGIN - ORIGIN;
 
 // How a line's frame lies on a page: the bytes from one column to the next and from one row to the next, whether rows are mirrored,
 // the clip's rows, and what is added to a byte's index.
@@ -21,15 +32,15 @@ pub struct Layout {
 }
 
 // a or b.
-pub fn either(first: bool, a: usize, b: usize) -> usize
+pub(crate) fn either(first: bool, a: usize, b: usize) -> usize
     ensures { λ r. ⌜ (r ≡ cond first a b) × (r ≤ a + b) ⌝ }
 {
     if first { a } else { b }
 }
 
 // How a frame lies on a page.
-pub fn layout_of(view: View, f: Frame) -> Layout
-    requires { ⌜ (view .w ≤ 1024) × (view .x0 ≤ 1024) × (view .y0 ≤ 1024) × (view .x1 ≤ 1024) × (view .y1 ≤ 1024) × (f .y ≤ 8191) ⌝ }
+pub(crate) fn layout_of(view: View, f: Frame) -> Layout
+    requires { ⌜ (view .w ≤ 1024) × (view .x0 ≤ 1024) × (view .y0 ≤ 1024) × (view .x1 ≤ 1024) × (view .y1 ≤ 1024) × (f .y ≤ offsetMost) ⌝ }
     ensures { λ lay. ⌜ Laid view f lay ⌝ }
 {
     let along = either(f.steep, view.w, 1);
@@ -41,21 +52,21 @@ pub fn layout_of(view: View, f: Frame) -> Layout
         along,
         across,
         falls: f.falls,
-        low: either(f.falls, y + 12288 - end, from + 20480 - y),
-        high: either(f.falls, y + 12288 - from, end + 20480 - y),
-        origin: ORIGIN * along + 20480 * across,
+        low: either(f.falls, y + MIRRORED - end, from + RAISED - y),
+        high: either(f.falls, y + MIRRORED - from, end + RAISED - y),
+        origin: ORIGIN * along + RAISED * across,
     }
 }
 
 // Whether row g lies in the clip.
-pub fn is_shown(lay: Layout, g: usize) -> bool
+pub(crate) fn is_shown(lay: Layout, g: usize) -> bool
     ensures { λ t. ⌜ t ≡ shown lay g ⌝ }
 {
     if lay.low <= g { g < lay.high } else { false }
 }
 
 // The byte of the row above byte k.
-pub fn byte_above(lay: Layout, k: usize) -> usize
+pub(crate) fn byte_above(lay: Layout, k: usize) -> usize
     requires { ⌜ (lay .across ≤ k) × (k + lay .across < 2 ^ 63) ⌝ }
     ensures { λ r. ⌜ (r ≡ raised lay k) × (r ≤ k + lay .across) ⌝ }
 {
@@ -67,7 +78,7 @@ pub fn byte_above(lay: Layout, k: usize) -> usize
 }
 
 // The byte of the row below byte k.
-pub fn byte_below(lay: Layout, k: usize) -> usize
+pub(crate) fn byte_below(lay: Layout, k: usize) -> usize
     requires { ⌜ (lay .across ≤ k) × (k + lay .across < 2 ^ 63) ⌝ }
     ensures { λ r. ⌜ r ≡ lowered lay k ⌝ }
 {

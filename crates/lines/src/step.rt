@@ -6,12 +6,11 @@ use coverage::line::Rows;
 use page::View;
 ghost use mathlib.Core.Bool.{true};
 ghost use mathlib.Core.Path.{_≡_};
-ghost use Prim.Native.Nat.{_+_, _*_, _-_, _^_, _≤_, _<_};
+ghost use Prim.Native.Nat.{_+_, _*_, _-_, _≤_, _<_};
 ghost use lib.ListN.{length};
-ghost use Rattle.numbers.specs.inner.Offset.{origin};
 ghost use Rattle.page.specs.inner.Ink.{inkOf, Coverage, Reciprocal};
-ghost use Rattle.lines.specs.inner.Layout.{spotted, counted, columned, columnCount, Reachable, At, Advanced};
-ghost use Rattle.lines.specs.inner.Stroke.{Steppable, Inner, Stepped};
+ghost use Rattle.lines.specs.inner.Layout.{spotted, counted, columned, columnCount, Reachable};
+ghost use Rattle.lines.specs.inner.Stroke.{At, FirstFits, NextFits, Advanced, Steppable, Inner, Stepped};
 
 // One line on one page: what its columns are drawn with.
 pub struct Stroke {
@@ -35,14 +34,14 @@ pub struct Step {
 }
 
 // Where a walk that begins at column p stands.
-pub fn first_step(lay: Layout, f: Frame, p: usize) -> Step
-    requires { ⌜ (f .l ≤ 8191) × (f .s ≤ f .l) × (f .x ≤ p + origin) × (p + origin < f .x + f .l) × (p ≤ 1024) × (f .y ≤ 8191) × (lay .along ≤ 1024) × (lay .across ≤ 1024) × (lay .falls ≡ f .falls) ⌝ }
-    ensures { λ at. ⌜ At f lay p (at .k) (at .g) (at .r) × (at .p ≡ p) × (at .touched ≡ 0) ⌝ }
+pub(crate) fn first_step(lay: Layout, f: Frame, p: usize) -> Step
+    requires { ⌜ FirstFits lay f p ⌝ }
+    ensures { λ at. ⌜ At f lay at × (at .p ≡ p) × (at .touched ≡ 0) ⌝ }
 {
     let c = coverage::line::crossing_at(f.l, f.s, (p as u64) + numbers::ORIGIN - f.x);
-    let g = 16384 + (c.q as usize);
+    let g = layout::ROW_ORIGIN + (c.q as usize);
     let y = f.y as usize;
-    let row = layout::either(lay.falls, y + 32767 - g, y + g);
+    let row = layout::either(lay.falls, y + layout::LAST_ROW - g, y + g);
     Step {
         p,
         k: (p + layout::ORIGIN) * lay.along + row * lay.across,
@@ -54,9 +53,8 @@ pub fn first_step(lay: Layout, f: Frame, p: usize) -> Step
 
 // The next column, after one that touched t pixels: one row further where the rest comes to a whole row.
 fn advanced(lay: Layout, f: Frame, at: Step, t: u64) -> Step
-    requires { ⌜ (f .l ≤ 8191) × (f .s ≤ f .l) × (at .r < 2 * f .l) × (lay .across ≤ at .k) × (at .k + lay .across + lay .along < 2 ^ 63) × (at .g ≤ 65535) × (at .p ≤ 1024) × (at .touched ≤ 65535) ⌝ }
-    requires { ⌜ t ≤ 3 ⌝ }
-    ensures { λ to. ⌜ Advanced lay (2 * f .l) (2 * f .s) (at .k) (at .g) (at .r) (to .k) (to .g) (to .r) × (to .p ≡ at .p + 1) × (to .touched ≡ at .touched + t) ⌝ }
+    requires { ⌜ NextFits lay f at × (t ≤ 3) ⌝ }
+    ensures { λ to. ⌜ Advanced lay f t at to ⌝ }
 {
     let whole = 2 * f.l;
     let rest = at.r + 2 * f.s;
@@ -156,9 +154,9 @@ fn draw_column(
 }
 
 // Draws the column where a walk stands, under the clip, and goes on to the next.
-pub fn step_clipped(page: &mut [u8], s: Stroke, at: Step) -> Step
+pub(crate) fn step_clipped(page: &mut [u8], s: Stroke, at: Step) -> Step
     requires { ⌜ Steppable s at (length (now page)) ⌝ }
-    ensures { λ to. ⌜ Stepped s at to (now (page .entry)) (now (page .exit)) ⌝ }
+    ensures { λ to. ⌜ Stepped (inkOf (s .level) (s .d)) s at to (now (page .entry)) (now (page .exit)) ⌝ }
 {
     let f = s.frame;
     let lay = s.layout;
@@ -171,7 +169,7 @@ pub fn step_clipped(page: &mut [u8], s: Stroke, at: Step) -> Step
 // Draws a column inside the clip that has two rows, and goes on to the next, in the same row.
 fn step_flat(page: &mut [u8], s: Stroke, at: Step) -> Step
     requires { ⌜ Steppable s at (length (now page)) × Inner s at × (at .r + 2 * s .frame .s < 2 * s .frame .l) ⌝ }
-    ensures { λ to. ⌜ Stepped s at to (now (page .entry)) (now (page .exit)) ⌝ }
+    ensures { λ to. ⌜ Stepped (inkOf (s .level) (s .d)) s at to (now (page .entry)) (now (page .exit)) ⌝ }
 {
     let f = s.frame;
     let lay = s.layout;
@@ -187,7 +185,7 @@ fn step_flat(page: &mut [u8], s: Stroke, at: Step) -> Step
 // Draws a column inside the clip that has three rows, or two with t = 0, and goes on to the next, one row further.
 fn step_crossed(page: &mut [u8], s: Stroke, at: Step) -> Step
     requires { ⌜ Steppable s at (length (now page)) × Inner s at × (2 * s .frame .l ≤ at .r + 2 * s .frame .s) ⌝ }
-    ensures { λ to. ⌜ Stepped s at to (now (page .entry)) (now (page .exit)) ⌝ }
+    ensures { λ to. ⌜ Stepped (inkOf (s .level) (s .d)) s at to (now (page .entry)) (now (page .exit)) ⌝ }
 {
     let f = s.frame;
     let lay = s.layout;
@@ -203,9 +201,9 @@ fn step_crossed(page: &mut [u8], s: Stroke, at: Step) -> Step
 }
 
 // Draws the column where a walk stands, which lies inside the clip, and goes on to the next.
-pub fn step_inside(page: &mut [u8], s: Stroke, at: Step) -> Step
+pub(crate) fn step_inside(page: &mut [u8], s: Stroke, at: Step) -> Step
     requires { ⌜ Steppable s at (length (now page)) × Inner s at ⌝ }
-    ensures { λ to. ⌜ Stepped s at to (now (page .entry)) (now (page .exit)) ⌝ }
+    ensures { λ to. ⌜ Stepped (inkOf (s .level) (s .d)) s at to (now (page .entry)) (now (page .exit)) ⌝ }
 {
     let f = s.frame;
     if at.r + 2 * f.s < 2 * f.l {

@@ -15,7 +15,7 @@ use mir.Facts.{toZ-ofZ, ofZ-toZ}
 use Rattle.numbers.specs.inner.Order.{dist}
 use Rattle.numbers.proofs.Order.{lt-or-le}
 use Rattle.numbers.specs.Coordinate.{inRange, bitsOf, signedOf, wordOf, bytesOf}
-use Rattle.numbers.specs.inner.Offset.{origin, offsetOf}
+use Rattle.numbers.specs.inner.Offset.{origin, offsetMost, offsetOf}
 use Rattle.numbers.proofs.Integer.{Diff, plus, minus, diff-of, diff-pos, diff-add, diff-minus, diff-shift, diff-unique, diff-eq, diff-le, le-diff, diff-abs, is-below, nonNeg-diff, sfits-diff}
 
 -- ---- the range
@@ -45,14 +45,14 @@ pub offset-in : (z : ℤ) → inRange z ≡ true → natAbs (z +ℤ pos origin) 
 unfolding offsetOf
 offset-in z e = rw e
 
-pub offset-out : (z : ℤ) → inRange z ≡ false → 8192 ≡ offsetOf z
+pub offset-out : (z : ℤ) → inRange z ≡ false → offsetMost + 1 ≡ offsetOf z
 unfolding offsetOf
 offset-out z e = rw e
 
 -- in range the coordinate is its offset less 4,096
 pub record InRange (z : ℤ) : Type 0 where
   pub test : inRange z ≡ true
-  pub less : offsetOf z < 8192
+  pub less : offsetOf z < offsetMost + 1
   pub diff : Diff z (offsetOf z) origin
 
 pub in-range : (z : ℤ) → inRange z ≡ true → InRange z
@@ -63,17 +63,17 @@ in-range z e =
     record { test = e; less = rw e (omega (arith, range-parts z t)); diff = rw e (diff-shift (natAbs (z +ℤ pos origin)) origin (diff-of z) (omega arith)) }
 
 -- the range by the offset
-pub range-offset : (z : ℤ) → inRange z ≡ ltb (offsetOf z) 8192
+pub range-offset : (z : ℤ) → inRange z ≡ ltb (offsetOf z) (offsetMost + 1)
 range-offset z = go (inRange z) refl
   where
-    go : (b : Bool) → inRange z ≡ b → b ≡ ltb (offsetOf z) 8192
-    go true e = sym (lt-ltb (offsetOf z) 8192 (in-range z e .less))
-    go false e = sym (ap (λ (o : ℕ). ltb o 8192) (sym (offset-out z e)))
+    go : (b : Bool) → inRange z ≡ b → b ≡ ltb (offsetOf z) (offsetMost + 1)
+    go true e = sym (lt-ltb (offsetOf z) (offsetMost + 1) (in-range z e .less))
+    go false e = sym (ap (λ (o : ℕ). ltb o (offsetMost + 1)) (sym (offset-out z e)))
 
-pub offset-le : (z : ℤ) → offsetOf z ≤ 8192
+pub offset-le : (z : ℤ) → offsetOf z ≤ offsetMost + 1
 offset-le z = go (inRange z) refl
   where
-    go : (b : Bool) → inRange z ≡ b → offsetOf z ≤ 8192
+    go : (b : Bool) → inRange z ≡ b → offsetOf z ≤ offsetMost + 1
     go true e = omega (arith, in-range z e .less)
     go false e = omega (arith, offset-out z e)
 

@@ -8,6 +8,9 @@ ghost use Rattle.numbers.specs.inner.Offset.{offsetOf};
 // The offset of coordinate 0.
 pub const ORIGIN: u64 = 4096;
 
+// The greatest offset, that of 4,095.
+pub const OFFSET_MOST: u64 = 8191;
+
 // A product of two 16-bit numbers.
 pub fn product(a: u64, b: u64) -> u64
     requires { ⌜ (a ≤ 65535) × (b ≤ 65535) ⌝ }
@@ -51,20 +54,20 @@ pub fn distance(a: u64, b: u64) -> u64
 }
 
 // Whether a coordinate is from -4,096 to 4,095.
-pub fn in_range(c: i16) -> bool
+fn in_range(c: i16) -> bool
     ensures { λ r. ⌜ r ≡ inRange c ⌝ }
 {
     -4096 <= c && c <= 4095
 }
 
-// The coordinate counted from -4,096, and 8,192 for a number out of range: the geometry is unsigned from here on.
+// The coordinate counted from -4,096, and one above the greatest offset for a number out of range: the geometry is unsigned from here on.
 pub fn offset(c: i16) -> u64
     ensures { λ r. ⌜ r ≡ offsetOf c ⌝ }
 {
     if in_range(c) {
         (c + ORIGIN as i16) as u64
     } else {
-        8192
+        OFFSET_MOST + 1
     }
 }
 

@@ -1,3 +1,4 @@
+-- A query without a refusal has a lawful shape and a pixel in range, which is all that the ratio of a kind asks.
 use mathlib.Core.Path.{_≡_}
 use mathlib.Core.Bool.{true}
 use native.Mathlib.Omega.{arith}
@@ -30,16 +31,10 @@ answered c =
     let s = c .before .before in
     covered (s .args .shape) (s .fits .x) (s .fits .y) (c .before .query-refusal .ensures) (omega arith)
 
-query-refusal-requires : tie.Need-query-refusal-requires
-query-refusal-requires c κs = search needs
-
 returns : tie.Need-returns
 returns c =
     let s = c .before .before in
     refused (s .args .shape) (s .fits .x) (s .fits .y) (c .before .query-refusal .ensures) (omega arith)
-
-enum-known-shape : tie.Need-enum-known-shape
-enum-known-shape c = search needs
 
 line-ratio-requires : tie.Need-line-ratio-requires
 line-ratio-requires c κs =
@@ -47,17 +42,11 @@ line-ratio-requires c κs =
     let e : shapeRefusal (line (c .before .shape .given .0 .0)) ≡ 0 = cc in
     (e, q .1, q .2)
 
-enum-known-shape-2 : tie.Need-enum-known-shape-2
-enum-known-shape-2 c = search needs
-
 disc-ratio-requires : tie.Need-disc-ratio-requires
 disc-ratio-requires c κs =
     let q = passed (c .before .before .before) in
     let e : shapeRefusal (disc (c .before .shape2 .given .0 .0)) ≡ 0 = cc in
     (e, q .1, q .2)
-
-enum-known-shape-3 : tie.Need-enum-known-shape-3
-enum-known-shape-3 c = search needs
 
 ring-ratio-requires : tie.Need-ring-ratio-requires
 ring-ratio-requires c κs =
@@ -77,15 +66,5 @@ returns-4 c = answered (c .before .before .before .before) (c .ring-ratio .resul
 pub coverage-spec : {M : Type 1} → statement M
 coverage-spec =
     tie.close
-    (tie.spec
-    query-refusal-requires
-    returns
-    enum-known-shape
-    line-ratio-requires
-    enum-known-shape-2
-    disc-ratio-requires
-    enum-known-shape-3
-    ring-ratio-requires
-    returns-2
-    returns-3
-    returns-4)
+    (tie.spec (λ c. search needs) returns (λ c. search needs) line-ratio-requires (λ c. search needs) disc-ratio-requires (λ c. search needs)
+    ring-ratio-requires returns-2 returns-3 returns-4)

@@ -2,6 +2,14 @@
 use Prim.Native.Nat.{ℕ, _+_, _-_, _≤_, _<_}
 use Rattle.coverage.specs.Circle.{halfRoot}
 
+-- the greatest radius
+abbrev pub radiusMost : ℕ
+radiusMost = 255
+
+-- how many heights are held: those at 0 to one above the greatest radius
+abbrev pub heightsHeld : ℕ
+heightsHeld = radiusMost + 2
+
 -- how far a pixel is from the centre along one axis, by the offsets x and c: `folded (x − c)`
 abbrev pub apart : ℕ → ℕ → ℕ
 apart c x = (x - c) + (c - x - 1)

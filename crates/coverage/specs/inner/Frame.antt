@@ -1,16 +1,27 @@
 -- The frame of a line as the code holds it.
 use mathlib.Core.Bool.{Bool, true, cond}
 use mathlib.Core.Path.{_≡_}
-use Prim.Native.Nat.{_+_, _-_, _≤_, _<_}
+use Prim.Native.Nat.{ℕ, _+_, _-_, _≤_, _<_}
 use lib.Dec.{leb, ltb}
 use Rattle.numbers.specs.Coordinate.{inRange}
 use Rattle.numbers.specs.inner.Order.{dist}
-use Rattle.numbers.specs.inner.Offset.{offsetOf}
+use Rattle.numbers.specs.inner.Offset.{offsetMost, offsetOf}
 use Rattle.shapes.specs.declared.Line.{Line}
 use Rattle.shapes.specs.declared.Ends.{Ends}
 use Rattle.shapes.specs.Span.{longer, shorter, steep}
 use Rattle.coverage.specs.Frame.{framed, falls}
 use Rattle.coverage.specs.declared.line.Frame.{Frame}
+
+-- the row 0 of a frame is counted as this, so that no row is negative
+abbrev pub rowOrigin : ℕ
+rowOrigin = 16384
+
+-- the row, so counted, at offset b across the longer span, with the first end at offset y; mirrored where the line falls
+abbrev pub rowBy : Bool → ℕ → ℕ → ℕ
+rowBy falls y b = cond falls (y + (rowOrigin - 1) - b) (b + rowOrigin - y)
+
+abbrev pub rowAt : Frame → ℕ → ℕ
+rowAt f b = rowBy (f .falls) (f .y) b
 
 -- the ends by their offsets: x and y exchanged where y is the longer, and then in the order in which x rises
 abbrev pub exchangedBy : Bool → Ends → Ends
@@ -40,5 +51,5 @@ pub record Framed (n : Line) (f : Frame) : Type 0 where
   pub y-in : inRange (framed n .y0) ≡ true
   pub long : 0 < f .l
   pub short : f .s ≤ f .l
-  pub right : f .x + f .l ≤ 8191
-  pub high : f .y ≤ 8191
+  pub right : f .x + f .l ≤ offsetMost
+  pub high : f .y ≤ offsetMost

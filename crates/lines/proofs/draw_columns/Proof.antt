@@ -1,82 +1,93 @@
+-- Three walks, one after the other, extend each other from the first column to the last: the columns below the clip's highest rows are
+-- drawn inside it, the others under it.
+use mathlib.Core.Path.{sym, _∙_}
 use native.Mathlib.Omega.{arith}
 use lib.ListN.{length}
+use Rattle.coverage.proofs.Pixel.{whole-drawn}
+use Rattle.lines.specs.inner.Stroke.{Walkable}
 use Rattle.lines.proofs.Columns.{whole-fits, layout-le, along-most}
-use Rattle.lines.proofs.Walk.{extended-join, extended-whole, standing-first}
+use Rattle.lines.proofs.Walk.{extended-join, extended-whole, walkable-first, walkable-on}
 use borrow.Author.Needs.{needs}
 use Rattle.lines.proofs.draw_columns.Statement.{statement}
 use Rattle.lines.proofs.draw_columns.Tie as tie
 
-layout-of-requires : tie.Need-layout-of-requires
-layout-of-requires c κs = search needs
-
-whole-of-requires : tie.Need-whole-of-requires
-whole-of-requires c κs = search needs
-
 reciprocal-requires : tie.Need-reciprocal-requires
 reciprocal-requires c κs =
-    let a = c .before .before .before .args in
-    let f = c .before .before .before .pre .0 .1 in
-    rw (c .whole-of .ensures) (whole-fits (a .line .exact) (a .f .l) (a .f .s) (f .long) (f .short) (omega (arith, f .right)))
+    let s = c .before .before .before in
+    let f = s .pre .1 in
+    rw (c .whole-of .ensures) (whole-fits (s .args .line .exact) (s .args .f .l) (s .args .f .s) (f .long) (f .short) (omega (arith, f .right)))
 
 first-step-requires : tie.Need-first-step-requires
 first-step-requires c κs =
-    let pre = c .before .before .before .before .pre in
-    let a = c .before .before .before .before .args in
-    let laid = c .before .before .layout-of in
-    let w = pre .0 .0 in
-    let fr = pre .0 .1 in
-    let o = layout-le (a .view) (a .f) (laid .result) (length (a .page .now)) w (laid .ensures) in
-    (omega (arith, fr .right), fr .short, pre .1 .3, omega (arith, pre .1), along-most (a .view) (a .f) (length (a .page .now)) (a .from) w (omega (arith, pre .1)), fr .high, o .0, o .1, laid .ensures .falls-is)
+    let laid = c .before .before in
+    let s = laid .before .before in
+    let a = s .args in
+    let f = s .pre .1 in
+    let b = s .pre .2 in
+    let o = layout-le (a .view) (a .f) (laid .layout-of .result) (length (a .page .now)) (s .pre .0) (laid .layout-of .ensures) in
+    record {
+      first = b .first;
+      last = omega (arith, b .some, b .end .last);
+      long = omega (arith, f .right);
+      short = f .short;
+      high = f .high;
+      column = along-most (a .view) (a .f) (length (a .page .now)) (a .from) (s .pre .0) (omega (arith, b .some, b .end .right));
+      along = o .0;
+      across = o .1;
+      falls-is = laid .layout-of .ensures .falls-is;
+    }
+
+-- the stroke, and where its walk begins
+module _ (c : tie.After-first-step) where
+  abbrev start : tie.Start
+  start = let laid = c .before .before .before in laid .before .before
+
+  walkable : let laid = c .before .before .before in let a = laid .before .before .args in
+      Walkable (record { view = a .view; line = a .line; frame = a .f; layout = laid .layout-of .result; level = a .level; d = c .before .before .whole-of .result; m = c .before .reciprocal .result })
+      (c .first-step .result) (a .end) (length (a .page .now))
+  walkable =
+      let pre = start .pre in
+      let laid = c .before .before .before .layout-of .ensures in
+      let first = c .first-step .ensures in
+      walkable-first (record { lawful = pre .0; framed = pre .1; laid = laid; d-is = c .before .before .whole-of .ensures; m-is = c .before .reciprocal .ensures })
+      (pre .2) (first .0) (first .1) (first .2)
 
 walk-clipped-requires : tie.Need-walk-clipped-requires
-walk-clipped-requires c κs =
-    let pre = c .before .before .before .before .before .before .pre in
-    let laid = c .before .before .before .before .layout-of in
-    let whole = c .before .before .before .whole-of in
-    let scaled = c .before .before .reciprocal in
-    let a = c .before .before .before .before .before .before .args in
-    let start = c .before .first-step in
-    (record { lawful = pre .0 .0; framed = pre .0 .1; laid = laid .ensures; d-is = whole .ensures; m-is = scaled .ensures }, standing-first (record { view = a .view; line = a .line; frame = a .f; layout = laid .result; level = a .level; d = whole .result; m = scaled .result }) (start .result) (a .from) (start .ensures .0) (start .ensures .1) (start .ensures .2) (pre .1 .0) (pre .1 .3), omega (arith, start .ensures .1, pre .1), record { right = pre .1 .2; last = pre .1 .4 })
+walk-clipped-requires c κs = walkable (c .before)
+
+-- from the first walk on
+module _ (c : tie.After-walk-clipped) where
+  abbrev begun : tie.After-first-step
+  begun = c .before .before
 
 walk-inside-requires : tie.Need-walk-inside-requires
 walk-inside-requires c κs =
-    let lower = c .before .before .before .walk-clipped in
-    let pre = c .before .before .before .before .before .before .before .before .before .before .pre in
-    let a = lower .ensures in
-    ((rw (lower .kept .0) (record { lawful = pre .0 .0; framed = pre .0 .1; laid = c .before .before .before .before .before .before .before .before .layout-of .ensures; d-is = c .before .before .before .before .before .before .before .whole-of .ensures; m-is = c .before .before .before .before .before .before .reciprocal .ensures }), a .0 .standing, a .1, record { right = pre .1 .2; last = pre .1 .4 }), a .2)
+    let lower = c .before .before .before in
+    let e = lower .walk-clipped .ensures in
+    (walkable-on (lower .walk-clipped .kept .0) (walkable (begun lower)) (e .0) (e .1), e .2)
 
 walk-clipped-requires-2 : tie.Need-walk-clipped-requires-2
 walk-clipped-requires-2 c κs =
-    let inner = c .before .before .before .walk-inside in
-    let pre = c .before .before .before .before .before .before .before .before .before .before .before .before .before .before .pre in
-    let b = inner .ensures in
-    (rw (inner .kept .0, c .before .before .before .before .before .before .before .walk-clipped .kept .0) (record { lawful = pre .0 .0; framed = pre .0 .1; laid = c .before .before .before .before .before .before .before .before .before .before .before .before .layout-of .ensures; d-is = c .before .before .before .before .before .before .before .before .before .before .before .whole-of .ensures; m-is = c .before .before .before .before .before .before .before .before .before .before .reciprocal .ensures }), b .0 .standing, b .1, record { right = pre .1 .2; last = pre .1 .4 })
-
-same-length : tie.Need-same-length
-same-length c = search needs
+    let inner = c .before .before .before in
+    let lower = inner .before .before .before .before in
+    let e = lower .walk-clipped .ensures in
+    let g = inner .walk-inside .ensures in
+    walkable-on (inner .walk-inside .kept .0 ∙ lower .walk-clipped .kept .0) (walkable (begun lower)) (extended-join (e .0) (g .0)) (g .1)
 
 returns : tie.Need-returns
 returns c =
-    let a = c .before .before .before .before .before .before .before .before .before .before .before .before .before .before .before .before .before .args in
-    let laid = c .before .before .before .before .before .before .before .before .before .before .before .before .before .before .before .layout-of in
-    let whole = c .before .before .before .before .before .before .before .before .before .before .before .before .before .before .whole-of in
-    let scaled = c .before .before .before .before .before .before .before .before .before .before .before .before .before .reciprocal in
-    let start = c .before .before .before .before .before .before .before .before .before .before .before .before .first-step in
-    let upper = c .before .before .walk-clipped2 in
-    let pre = c .before .before .before .before .before .before .before .before .before .before .before .before .before .before .before .before .before .pre in
-    let x = extended-join (extended-join (c .before .before .before .before .before .before .before .before .before .before .walk-clipped .ensures .0) (c .before .before .before .before .before .before .walk-inside .ensures .0)) (upper .ensures .0) in
-    rw (← start .ensures .1) (extended-whole (record { lawful = pre .0 .0; framed = pre .0 .1; laid = laid .ensures; d-is = whole .ensures; m-is = scaled .ensures }) (record { right = pre .1 .2; last = pre .1 .4 }) (start .ensures .2) x (upper .ensures .1) (upper .ensures .2))
+    let upper = c .before .before in
+    let inner = upper .before .before .before .before in
+    let lower = inner .before .before .before .before in
+    let first = begun lower in
+    let pre = start first .pre in
+    let e = upper .walk-clipped2 .ensures in
+    let x = extended-join (extended-join (lower .walk-clipped .ensures .0) (inner .walk-inside .ensures .0)) (e .0) in
+    rw (sym (first .before .before .whole-of .ensures ∙ whole-drawn (pre .1)), ← first .first-step .ensures .1)
+    (extended-whole (walkable first .ready) (pre .2 .end) (first .first-step .ensures .2) x (e .1) (e .2))
 
 pub draw-columns-spec : {M : Type 1} → statement M
 draw-columns-spec =
     tie.close
-    (tie.spec
-    layout-of-requires
-    whole-of-requires
-    reciprocal-requires
-    first-step-requires
-    walk-clipped-requires
-    walk-inside-requires
-    walk-clipped-requires-2
-    same-length
-    returns)
+    (tie.spec (λ c. search needs) (λ c. search needs) reciprocal-requires first-step-requires walk-clipped-requires walk-inside-requires
+    walk-clipped-requires-2 (λ c. search needs) returns)

@@ -1,49 +1,32 @@
-use mathlib.Core.Bool.{cond}
-use native.Mathlib.Omega.{arith}
-use lib.ListN.{length}
-use Rattle.page.specs.inner.Paint.{inView}
-use Rattle.page.proofs.Clip.{clip-zero}
+-- The clipped line is its strip in the columns of `columns_of`, which has nothing where they are none.
+use mathlib.Core.Path.{sym, _∙_}
 use Rattle.page.proofs.Paint.{drawn-none, drawn-ext}
-use Rattle.lines.specs.inner.Layout.{lineOn, lineInk}
-use Rattle.lines.proofs.Strip.{strip-whole, line-beyond, either-side}
+use Rattle.lines.specs.inner.Layout.{Columns}
+use Rattle.lines.proofs.Strip.{strip-none}
 use borrow.Author.Needs.{needs}
 use Rattle.lines.proofs.draw_line.Statement.{statement}
 use Rattle.lines.proofs.draw_line.Tie as tie
 
-frame-of-requires : tie.Need-frame-of-requires
-frame-of-requires c κs = search needs
-
-columns-of-requires : tie.Need-columns-of-requires
-columns-of-requires c κs = search needs
+-- what `columns_of` promises of this line
+columns : (c : tie.After-columns-of) → let f = c .before in let a = f .before .before .args in
+    Columns (a .view) (a .line) (f .frame-of .result) (c .columns-of .result .from) (c .columns-of .result .end)
+columns c = let f = c .before in c .columns-of .ensures (f .before .before .args .line) (f .frame-of .ensures)
 
 returns : tie.Need-returns
 returns c =
-    let a = c .before .before .before .before .before .args in
-    let none = line-beyond (a .view) (a .line) (c .before .before .before .frame-of .result) (length (a .page .now)) (c .before .before .before .before .before .pre .0) (c .before .before .before .frame-of .ensures) (c .before .before .columns-of .result .from) (c .before .before .columns-of .result .end) (c .before .before .columns-of .ensures .0) (c .before .before .columns-of .ensures .1) in
-    drawn-none (a .view .w) (a .view .h) (lineInk (a .line) (a .level)) (inView (a .view) (lineOn (a .line))) (a .page .now)
-    (clip-zero (a .view .x0) (a .view .y0) (a .view .x1) (a .view .y1) (lineOn (a .line)) (λ x y i. none x y i (either-side (c .before .before .columns-of .result .from) (c .before .before .columns-of .result .end) (cond (c .before .before .before .frame-of .result .steep) y x) (c .if1 .taken))))
+    let k = c .before .before in
+    drawn-none _ _ _ _ _ (λ x y. sym (columns k .whole x y) ∙ strip-none _ _ _ _ _ (c .if1 .taken) x y)
 
 draw-columns-requires : tie.Need-draw-columns-requires
-draw-columns-requires c κs = search needs
-
-same-length : tie.Need-same-length
-same-length c = search needs
+draw-columns-requires c κs =
+    let k = c .before .before .before in
+    let f = k .before in
+    (f .before .before .pre .0, f .frame-of .ensures, columns k .between (c .before .if1 .left))
 
 returns-2 : tie.Need-returns-2
 returns-2 c =
-    let a = c .before .before .before .before .before .before .before .before .before .args in
-    drawn-ext (inView (a .view) (lineOn (a .line)))
-    (strip-whole (a .view) (c .before .before .before .before .before .before .before .frame-of .result) (lineOn (a .line)) (c .before .before .before .before .before .before .columns-of .result .from) (c .before .before .before .before .before .before .columns-of .result .end) (omega (arith, c .before .before .before .before .before .before .columns-of .ensures .0)) (omega (arith, c .before .before .before .before .before .before .columns-of .ensures .1))
-    (line-beyond (a .view) (a .line) (c .before .before .before .before .before .before .before .frame-of .result) (length (a .page .now)) (c .before .before .before .before .before .before .before .before .before .pre .0) (c .before .before .before .before .before .before .before .frame-of .ensures) (c .before .before .before .before .before .before .columns-of .result .from) (c .before .before .before .before .before .before .columns-of .result .end) (c .before .before .before .before .before .before .columns-of .ensures .0) (c .before .before .before .before .before .before .columns-of .ensures .1)))
-    (c .before .before .draw-columns .ensures)
+    let d = c .before .before in
+    drawn-ext _ (columns (d .before .before .before .before) .whole) (d .draw-columns .ensures)
 
 pub draw-line-spec : {M : Type 1} → statement M
-draw-line-spec =
-    tie.close
-    (tie.spec
-    frame-of-requires
-    columns-of-requires
-    returns
-    draw-columns-requires
-    same-length
-    returns-2)
+draw-line-spec = tie.close (tie.spec (λ c. search needs) (λ c. search needs) returns draw-columns-requires (λ c. search needs) returns-2)

@@ -1,3 +1,4 @@
+-- The two tests, one after the other, are the conjunction.
 use borrow.Author.Tests.{lt-ltb, le-ltb}
 use Rattle.lines.proofs.goes_on.Statement.{statement}
 use Rattle.lines.proofs.goes_on.Tie as tie

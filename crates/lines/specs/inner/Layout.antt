@@ -1,32 +1,30 @@
--- How the frame of a line lies on a page. A frame's rows are counted from 16,384, so that none is negative, and p is the page's column
--- of a frame's column, or its row where the line is steep.
+-- How the frame of a line lies on a page. p is the page's column of a frame's column, or its row where the line is
+-- steep.
 use mathlib.Core.Bool.{Bool, true, cond, _&&_}
 use mathlib.Core.Path.{_≡_}
 use mathlib.Core.List.{List}
 use Prim.Native.Nat.{ℕ, _+_, _*_, _-_, _^_, _≤_, _<_}
 use lib.Dec.{leb, ltb}
-use lib.IntN.{pos}
 use lib.ListN.{getD, set}
 use Rattle.numbers.specs.inner.Offset.{origin}
 use Rattle.shapes.specs.declared.Line.{Line}
 use Rattle.shapes.specs.declared.Shape.the-variants.{Line as line}
-use Rattle.coverage.specs.Line.{rowOf, restOf}
-use Rattle.coverage.specs.Coverage.{drawnN, drawnD}
+use Rattle.coverage.specs.inner.OnPage.{shapeOn}
+use Rattle.coverage.specs.inner.Frame.{rowOrigin, rowAt}
 use Rattle.coverage.specs.declared.line.Frame.{Frame}
 use Rattle.coverage.specs.declared.line.Rows.{Rows}
-use Rattle.page.specs.inner.Ink.{inkOf}
-use Rattle.page.specs.inner.Paint.{dot, touch, clipped}
+use Rattle.page.specs.inner.Paint.{dot, touch, clipped, inView}
 use Rattle.page.specs.declared.View.{View}
 use Rattle.lines.specs.declared.layout.Layout.{Layout}
 
--- the coverage of the page's pixels by a line, and the ink that it is drawn with
-abbrev pub lineOn : Line → ℕ → ℕ → ℕ
-lineOn n x y = drawnN (line n) (pos x) (pos y)
+-- a pixel's coordinate along a frame's columns, and across them
+abbrev pub alongOf : Frame → ℕ → ℕ → ℕ
+alongOf f x y = cond (f .steep) y x
 
-abbrev pub lineInk : Line → ℕ → ℕ → ℕ → ℕ
-lineInk n v = inkOf v (drawnD (line n))
+abbrev pub acrossOf : Frame → ℕ → ℕ → ℕ
+acrossOf f x y = cond (f .steep) x y
 
--- the clip's range along a frame's columns, and across them
+-- the clip's range along them, and across
 abbrev pub alongFrom : View → Frame → ℕ
 alongFrom c f = cond (f .steep) (c .y0) (c .x0)
 
@@ -39,25 +37,50 @@ acrossFrom c f = cond (f .steep) (c .x0) (c .y0)
 abbrev pub acrossEnd : View → Frame → ℕ
 acrossEnd c f = cond (f .steep) (c .x1) (c .y1)
 
+-- the columns before e end with the clip's and with the line's
+pub record EndInside (c : View) (f : Frame) (e : ℕ) : Type 0 where
+  pub right : e ≤ alongEnd c f
+  pub last : e + origin ≤ f .x + f .l
+
+-- columns from p to e, at least one, that the clip and the line have
+pub record Between (c : View) (f : Frame) (p e : ℕ) : Type 0 where
+  pub some : p < e
+  pub left : alongFrom c f ≤ p
+  pub first : f .x ≤ p + origin
+  pub end : EndInside c f e
+
 -- a coverage under the clip, in the frame's columns p to e alone
 unfoldable pub strip : View → Frame → ℕ → ℕ → (ℕ → ℕ → ℕ) → ℕ → ℕ → ℕ
 strip c f p e n = cond (f .steep) (clipped (c .x0) p (c .x1) e n) (clipped p (c .y0) e (c .y1) n)
 
+-- columns from p to e outside of which a line has no coverage in the clip
+pub record Columns (c : View) (n : Line) (f : Frame) (p e : ℕ) : Type 0 where
+  pub between : p < e → Between c f p e
+  pub whole : (x y : ℕ) → strip c f p e (shapeOn (line n)) x y ≡ inView c (shapeOn (line n)) x y
+
 -- the frame's row of a pixel
-abbrev pub rowAt : Frame → ℕ → ℕ → ℕ
-rowAt f x y = cond (f .falls) (f .y + 12287 - cond (f .steep) x y) (cond (f .steep) x y + 20480 - f .y)
+abbrev pub rowOn : Frame → ℕ → ℕ → ℕ
+rowOn f x y = rowAt f (acrossOf f x y + origin)
+
+-- the offset across the columns of row g, with the row origin added
+abbrev pub acrossBy : Bool → ℕ → ℕ → ℕ
+acrossBy falls y g = cond falls (y + (2 * rowOrigin - 1) - g) (y + g)
+
+-- the row of the clip's edge b, or of the other edge a where rows are mirrored
+abbrev pub edgeBy : Bool → ℕ → ℕ → ℕ → ℕ
+edgeBy falls y a b = cond falls (y + (rowOrigin - origin) - a) (b + (rowOrigin + origin) - y)
 
 -- the byte of column p and row g, with the layout's origin added, so that a pixel off the page has one too
 abbrev pub byteAt : Frame → Layout → ℕ → ℕ → ℕ
-byteAt f lay p g = (p + origin) * lay .along + cond (f .falls) (f .y + 32767 - g) (f .y + g) * lay .across
+byteAt f lay p g = (p + origin) * lay .along + acrossBy (f .falls) (f .y) g * lay .across
 
 pub record Laid (c : View) (f : Frame) (lay : Layout) : Type 0 where
   pub along-is : lay .along ≡ cond (f .steep) (c .w) 1
   pub across-is : lay .across ≡ cond (f .steep) 1 (c .w)
   pub falls-is : lay .falls ≡ f .falls
-  pub low-is : lay .low ≡ cond (f .falls) (f .y + 12288 - acrossEnd c f) (acrossFrom c f + 20480 - f .y)
-  pub high-is : lay .high ≡ cond (f .falls) (f .y + 12288 - acrossFrom c f) (acrossEnd c f + 20480 - f .y)
-  pub origin-is : lay .origin ≡ origin * lay .along + 20480 * lay .across
+  pub low-is : lay .low ≡ edgeBy (f .falls) (f .y) (acrossEnd c f) (acrossFrom c f)
+  pub high-is : lay .high ≡ edgeBy (f .falls) (f .y) (acrossFrom c f) (acrossEnd c f)
+  pub origin-is : lay .origin ≡ origin * lay .along + (rowOrigin + origin) * lay .across
 
 -- row g lies in the clip
 abbrev pub shown : Layout → ℕ → Bool
@@ -92,19 +115,7 @@ pub record Reachable (lay : Layout) (k g size : ℕ) : Type 0 where
   pub least : lay .across ≤ k
   pub most : k + lay .across < 2 ^ 63
   pub row-least : 1 ≤ g
-  pub row-most : g ≤ 32766
+  pub row-most : g + 1 < 2 * rowOrigin
   pub upper : shown lay (g + 1) ≡ true → (lay .origin ≤ raised lay k) × (raised lay k - lay .origin < size)
   pub middle : shown lay g ≡ true → (lay .origin ≤ k) × (k - lay .origin < size)
   pub lower : shown lay (g - 1) ≡ true → (lay .origin ≤ lowered lay k) × (lowered lay k - lay .origin < size)
-
--- the walk stands at column p: its byte, its row and its rest
-pub record At (f : Frame) (lay : Layout) (p k g r : ℕ) : Type 0 where
-  pub k-is : k ≡ byteAt f lay p g
-  pub g-is : g ≡ 16384 + rowOf (f .l) (f .s) (p + origin - f .x)
-  pub r-is : r ≡ restOf (f .l) (f .s) (p + origin - f .x)
-
--- from the rest r the next column is in the next row where r and 2s come to 2l
-pub record Advanced (lay : Layout) (l2 s2 k g r k′ g′ r′ : ℕ) : Type 0 where
-  pub k-is : k′ ≡ cond (leb l2 (r + s2)) (raised lay k) k + lay .along
-  pub g-is : g′ ≡ cond (leb l2 (r + s2)) (g + 1) g
-  pub r-is : r′ ≡ cond (leb l2 (r + s2)) (r + s2 - l2) (r + s2)

@@ -1,15 +1,63 @@
 -- One line on one page, and a walk along its columns.
+use mathlib.Core.Bool.{cond}
 use mathlib.Core.Path.{_≡_}
 use mathlib.Core.List.{List}
-use Prim.Native.Nat.{ℕ, _+_, _-_, _*_, _≤_, _<_}
-use Rattle.numbers.specs.inner.Offset.{origin}
+use Prim.Native.Nat.{ℕ, _+_, _-_, _*_, _^_, _≤_, _<_}
+use lib.Dec.{leb}
+use Rattle.numbers.specs.inner.Offset.{origin, offsetMost}
+use Rattle.shapes.specs.declared.Shape.the-variants.{Line as line}
+use Rattle.coverage.specs.Line.{rowOf, restOf}
 use Rattle.coverage.specs.inner.Rows.{wholeOf}
-use Rattle.coverage.specs.inner.Frame.{Framed}
+use Rattle.coverage.specs.inner.Frame.{rowOrigin, Framed}
+use Rattle.coverage.specs.inner.OnPage.{shapeOn}
+use Rattle.coverage.specs.declared.line.Frame.{Frame}
 use Rattle.page.specs.inner.Ink.{Reciprocal}
 use Rattle.page.specs.inner.Paint.{Lawful, Drawn}
-use Rattle.lines.specs.inner.Layout.{lineOn, lineInk, alongFrom, alongEnd, strip, Laid, At}
+use Rattle.lines.specs.inner.Layout.{alongFrom, strip, EndInside, Laid, byteAt, raised}
+use Rattle.lines.specs.declared.layout.Layout.{Layout}
 use Rattle.lines.specs.declared.step.Stroke.{Stroke}
 use Rattle.lines.specs.declared.step.Step.{Step}
+
+-- ---- one step
+
+-- a walk stands at a column: the byte, the row and the rest are the column's
+pub record At (f : Frame) (lay : Layout) (at : Step) : Type 0 where
+  pub k-is : at .k ≡ byteAt f lay (at .p) (at .g)
+  pub g-is : at .g ≡ rowOrigin + rowOf (f .l) (f .s) (at .p + origin - f .x)
+  pub r-is : at .r ≡ restOf (f .l) (f .s) (at .p + origin - f .x)
+
+-- a walk may begin at column p: it is one of the line's, and no number is too great
+pub record FirstFits (lay : Layout) (f : Frame) (p : ℕ) : Type 0 where
+  pub first : f .x ≤ p + origin
+  pub last : p + origin < f .x + f .l
+  pub long : f .l ≤ offsetMost
+  pub short : f .s ≤ f .l
+  pub high : f .y ≤ offsetMost
+  pub column : p ≤ 1024
+  pub along : lay .along ≤ 1024
+  pub across : lay .across ≤ 1024
+  pub falls-is : lay .falls ≡ f .falls
+
+-- a walk may go on to the next column: no number is too great
+pub record NextFits (lay : Layout) (f : Frame) (at : Step) : Type 0 where
+  pub long : f .l ≤ offsetMost
+  pub short : f .s ≤ f .l
+  pub rest : at .r < 2 * f .l
+  pub least : lay .across ≤ at .k
+  pub most : at .k + lay .across + lay .along < 2 ^ 63
+  pub row : at .g < 2 * rowOrigin
+  pub column : at .p ≤ 1024
+  pub few : at .touched ≤ 65535
+
+-- the next column, after one that touched t pixels: it is in the next row where the rest and 2s come to 2l
+pub record Advanced (lay : Layout) (f : Frame) (t : ℕ) (at to : Step) : Type 0 where
+  pub p-is : to .p ≡ at .p + 1
+  pub k-is : to .k ≡ cond (leb (2 * f .l) (at .r + 2 * f .s)) (raised lay (at .k)) (at .k) + lay .along
+  pub g-is : to .g ≡ cond (leb (2 * f .l) (at .r + 2 * f .s)) (at .g + 1) (at .g)
+  pub r-is : to .r ≡ cond (leb (2 * f .l) (at .r + 2 * f .s)) (at .r + 2 * f .s - 2 * f .l) (at .r + 2 * f .s)
+  pub touched-is : to .touched ≡ at .touched + t
+
+-- ---- a walk
 
 -- a stroke that may be drawn on a page of size bytes
 pub record Prepared (s : Stroke) (size : ℕ) : Type 0 where
@@ -21,36 +69,38 @@ pub record Prepared (s : Stroke) (size : ℕ) : Type 0 where
 
 -- a walk stands at a column of the stroke, or after its last; three pixels a column bound its count
 pub record Standing (s : Stroke) (at : Step) : Type 0 where
-  pub is : At (s .frame) (s .layout) (at .p) (at .k) (at .g) (at .r)
+  pub is : At (s .frame) (s .layout) at
   pub left : alongFrom (s .view) (s .frame) ≤ at .p
   pub first : s .frame .x ≤ at .p + origin
   pub few : at .touched ≤ 3 * at .p
-
--- the columns before e end with the clip's and with the line's
-pub record EndInside (s : Stroke) (e : ℕ) : Type 0 where
-  pub right : e ≤ alongEnd (s .view) (s .frame)
-  pub last : e + origin ≤ s .frame .x + s .frame .l
 
 -- a walk may draw the column at which it stands, on a page of size bytes
 pub record Steppable (s : Stroke) (at : Step) (size : ℕ) : Type 0 where
   pub ready : Prepared s size
   pub standing : Standing s at
-  pub within : EndInside s (at .p + 1)
+  pub within : EndInside (s .view) (s .frame) (at .p + 1)
+
+-- a walk may draw the columns from the one at which it stands to end
+pub record Walkable (s : Stroke) (at : Step) (end size : ℕ) : Type 0 where
+  pub ready : Prepared s size
+  pub standing : Standing s at
+  pub order : at .p ≤ end
+  pub within : EndInside (s .view) (s .frame) end
 
 -- a walk stands where the clip keeps all three rows of the column
 pub record Inner (s : Stroke) (at : Step) : Type 0 where
   pub above-low : s .layout .low < at .g
   pub below-high : at .g + 1 < s .layout .high
 
--- a walk has drawn the columns from one step to another: the page was l and is m
-pub record Extended (s : Stroke) (at to : Step) (l m : List ℕ) : Type 0 where
+-- a walk has drawn the columns from one step to another, in any ink: the page was l and is m
+pub record Extended (ink : ℕ → ℕ → ℕ) (s : Stroke) (at to : Step) (l m : List ℕ) : Type 0 where
   pub order : at .p ≤ to .p
   pub more : at .touched ≤ to .touched
-  pub drawn : Drawn (s .view .w) (s .view .h) (lineInk (s .line) (s .level)) (strip (s .view) (s .frame) (at .p) (to .p) (lineOn (s .line))) l m (to .touched - at .touched)
+  pub drawn : Drawn (s .view .w) (s .view .h) ink (strip (s .view) (s .frame) (at .p) (to .p) (shapeOn (line (s .line)))) l m (to .touched - at .touched)
   pub standing : Standing s to
 
 -- it was one column
-pub record Stepped (s : Stroke) (at to : Step) (l m : List ℕ) : Type 0 where
+pub record Stepped (ink : ℕ → ℕ → ℕ) (s : Stroke) (at to : Step) (l m : List ℕ) : Type 0 where
   pub p-is : to .p ≡ at .p + 1
   pub rises : at .g ≤ to .g
-  pub extended : Extended s at to l m
+  pub extended : Extended ink s at to l m

@@ -1,3 +1,4 @@
+-- The bits of a number that is not negative are the number; those of a negative one are 65,535 less −1 − z, which does not overflow.
 use mathlib.Core.Path.{_≡_, _∙_, ap, subst, sym}
 use mathlib.Core.Bool.{true}
 use Prim.Native.Nat.{ℕ, _-_, _<_, _≤_}

@@ -1,3 +1,4 @@
+-- The second test is made only where the first holds, which is the conjunction.
 use mathlib.Core.Bool.{Bool, true, false, _&&_}
 use mathlib.Core.Path.{_≡_, refl}
 use mir.Facts.{toZ-ofZ}

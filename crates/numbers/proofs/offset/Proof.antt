@@ -10,12 +10,6 @@ use Rattle.numbers.proofs.Coordinate.{raised-fits, raised-nonNeg, offse
 use Rattle.numbers.proofs.offset.Statement.{statement}
 use Rattle.numbers.proofs.offset.Tie as tie
 
-in-range-requires : tie.Need-in-range-requires
-in-range-requires c κs = search needs
-
-cast-result : tie.Need-cast-result
-cast-result c = search needs
-
 module _ (c : tie.Then1) where
   abbrev z : ℤ
   z = c .before .before .args .c
@@ -41,4 +35,4 @@ returns-2 c =
     offset-out (s .args .c) (rw (toZ-ofZ (s .fits .c)) at (sym (c .before .in-range .ensures) ∙ c .if1 .left))
 
 pub offset-spec : {M : Type 1} → statement M
-offset-spec = tie.close (tie.spec in-range-requires cast-result add-result cast-result-2 returns returns-2)
+offset-spec = tie.close (tie.spec (λ c. search needs) (λ c. search needs) add-result cast-result-2 (λ c. search needs) returns returns-2)

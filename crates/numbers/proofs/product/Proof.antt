@@ -1,3 +1,4 @@
+-- Two numbers of 16 bits have a product of 32.
 use native.Mathlib.Nat.{mul-le-mul}
 use native.Mathlib.Omega.{arith}
 use mathlib.Core.Path.{refl}

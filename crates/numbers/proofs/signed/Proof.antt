@@ -1,3 +1,4 @@
+-- Bits below 32,768 are the number; from there on it is −1 less the complement of the bits.
 use mathlib.Core.Path.{_≡_, sym, _∙_, ap}
 use Prim.Native.Nat.{ℕ, _-_, _<_, _≤_}
 use native.Mathlib.Omega.{arith}
@@ -18,15 +19,6 @@ value b h k =
     let v = flipped-back b h k in
     (ap (λ (z : ℤ). negsuc 0 -ℤ z) (toZ-pos w16 {n = 65535 - b} (omega arith)) ∙ v .0, v .1)
 
-cast-result : tie.Need-cast-result
-cast-result c = search needs
-
-sub-result : tie.Need-sub-result
-sub-result c = search needs
-
-cast-result-2 : tie.Need-cast-result-2
-cast-result-2 c = search needs
-
 sub-result-2 : tie.Need-sub-result-2
 sub-result-2 c = let v = value (c .before .args .b) (omega arith) (omega arith) in rw (v .0) (v .1)
 
@@ -37,4 +29,4 @@ returns-2 : tie.Need-returns-2
 returns-2 c = let v = value (c .before .args .b) (omega arith) (omega arith) in rw (v .0) (toZ-ofZ (v .1))
 
 pub signed-spec : {M : Type 1} → statement M
-signed-spec = tie.close (tie.spec cast-result sub-result cast-result-2 sub-result-2 returns returns-2)
+signed-spec = tie.close (tie.spec (λ c. search needs) (λ c. search needs) (λ c. search needs) sub-result-2 returns returns-2)

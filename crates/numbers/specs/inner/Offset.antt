@@ -1,6 +1,6 @@
 -- Coordinates without a sign.
 use mathlib.Core.Bool.{cond}
-use Prim.Native.Nat.{ℕ}
+use Prim.Native.Nat.{ℕ, _+_}
 use lib.IntN.{ℤ, pos, natAbs, _+ℤ_}
 use Rattle.numbers.specs.Coordinate.{inRange}
 
@@ -8,6 +8,10 @@ use Rattle.numbers.specs.Coordinate.{inRange}
 abbrev pub origin : ℕ
 origin = 4096
 
--- a coordinate counted from −4,096; 8,192 stands for every number out of range
+-- the greatest offset, that of 4,095
+abbrev pub offsetMost : ℕ
+offsetMost = 8191
+
+-- a coordinate counted from −4,096; one above the greatest offset stands for every number out of range
 unfoldable pub offsetOf : ℤ → ℕ
-offsetOf c = cond (inRange c) (natAbs (c +ℤ pos origin)) 8192
+offsetOf c = cond (inRange c) (natAbs (c +ℤ pos origin)) (offsetMost + 1)

@@ -1,3 +1,4 @@
+-- By offsets a pixel is as far from the centre as by coordinates, and the coverage is that of the two distances.
 use mathlib.Core.Path.{_≡_}
 use Rattle.numbers.proofs.Coordinate.{in-range}
 use Rattle.shapes.specs.inner.Offsets.{pointOf}
@@ -16,21 +17,6 @@ centre c =
 
 pixel : (c : tie.After-point-of2) → let a = c .before .before .before .before .args in c .point-of2 .result ≡ pointOf (a .x) (a .y)
 pixel c = let s = c .before .before .before .before in point-kept (s .fits .x) (s .fits .y) (c .point-of2 .ensures)
-
-point-of-requires : tie.Need-point-of-requires
-point-of-requires c κs = search needs
-
-point-of-requires-2 : tie.Need-point-of-requires-2
-point-of-requires-2 c κs = search needs
-
-cast-chords-of : tie.Need-cast-chords-of
-cast-chords-of c = search needs
-
-apart-of-requires : tie.Need-apart-of-requires
-apart-of-requires c κs = search needs
-
-apart-of-requires-2 : tie.Need-apart-of-requires-2
-apart-of-requires-2 c κs = search needs
 
 chords-of-requires : tie.Need-chords-of-requires
 chords-of-requires c κs =
@@ -52,11 +38,4 @@ returns c =
 pub disc-ratio-spec : {M : Type 1} → statement M
 disc-ratio-spec =
     tie.close
-    (tie.spec
-    point-of-requires
-    point-of-requires-2
-    cast-chords-of
-    apart-of-requires
-    apart-of-requires-2
-    chords-of-requires
-    returns)
+    (tie.spec (λ c. search needs) (λ c. search needs) (λ c. search needs) (λ c. search needs) (λ c. search needs) chords-of-requires returns)

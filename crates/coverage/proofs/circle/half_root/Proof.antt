@@ -15,15 +15,6 @@ Inv-loop y m t₀ t = (t ≤ y) × (halfRoot t m ≡ halfRoot y m)
 abbrev μ-loop : tie.MeasureT-loop
 μ-loop y m t₀ t = t
 
-loop-holds : tie.Need-loop-holds Inv-loop μ-loop
-loop-holds c = search needs
-
-mul-odd : tie.Need-mul-odd Inv-loop μ-loop
-mul-odd c = omega arith
-
-sub-odd : tie.Need-sub-odd Inv-loop μ-loop
-sub-odd c = omega arith
-
 mul-if1 : tie.Need-mul-if1 Inv-loop μ-loop
 mul-if1 c = omega (arith, square-le {a = 2 * c .before .loop .t - 1} {b = 131072} (omega arith))
 
@@ -31,12 +22,6 @@ returns : tie.Need-returns Inv-loop μ-loop
 returns c =
     let l = c .before .before .loop in
     sym (half-root-here (l .t) _ (c .if1 .taken)) ∙ l .inv .1
-
-sub-t : tie.Need-sub-t Inv-loop μ-loop
-sub-t c = omega arith
-
-loop-less : tie.Need-loop-less Inv-loop μ-loop
-loop-less c = omega arith
 
 loop-again : tie.Need-loop-again Inv-loop μ-loop
 loop-again c =
@@ -52,15 +37,5 @@ returns-2 c =
 pub half-root-spec : {M : Type 1} → statement M
 half-root-spec =
     tie.close
-    (tie.spec
-    Inv-loop
-    μ-loop
-    loop-holds
-    mul-odd
-    sub-odd
-    mul-if1
-    returns
-    sub-t
-    loop-less
-    loop-again
+    (tie.spec Inv-loop μ-loop (λ c. search needs) (λ c. omega arith) (λ c. omega arith) mul-if1 returns (λ c. omega arith) (λ c. omega arith) loop-again
     returns-2)

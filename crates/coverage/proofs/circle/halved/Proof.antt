@@ -1,3 +1,4 @@
+-- Half a root is at least the middle just where the square of the odd number below twice the middle is at most m.
 use Prim.Native.Nat.{_+_, _*_, _-_, _/_}
 use native.Mathlib.Omega.{arith}
 use Rattle.numbers.proofs.Order.{square-le}
@@ -5,15 +6,6 @@ use Rattle.coverage.proofs.Chord.{narrowed-up, narrowed-down}
 use borrow.Author.Needs.{needs}
 use Rattle.coverage.proofs.circle.halved.Statement.{statement}
 use Rattle.coverage.proofs.circle.halved.Tie as tie
-
-add-middle : tie.Need-add-middle
-add-middle c = search needs
-
-mul-odd : tie.Need-mul-odd
-mul-odd c = search needs
-
-sub-odd : tie.Need-sub-odd
-sub-odd c = search needs
 
 mul-if1 : tie.Need-mul-if1
 mul-if1 c =
@@ -31,4 +23,4 @@ returns-2 c =
     narrowed-down (a .low) (a .high) ((a .low + a .high) / 2) (a .m) (omega arith) (omega arith) (c .if1 .left)
 
 pub halved-spec : {M : Type 1} → statement M
-halved-spec = tie.close (tie.spec add-middle mul-odd sub-odd mul-if1 returns returns-2)
+halved-spec = tie.close (tie.spec (λ c. search needs) (λ c. search needs) (λ c. search needs) mul-if1 returns returns-2)

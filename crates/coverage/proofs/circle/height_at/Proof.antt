@@ -1,9 +1,10 @@
+-- The bracket keeps the height between its ends and gets narrower, until it holds one number.
 use mathlib.Core.Path.{sym}
 use Prim.Native.Nat.{_*_, _-_, _<_}
 use native.Mathlib.Omega.{arith}
 use Rattle.numbers.proofs.Order.{square-le}
 use Rattle.coverage.specs.Circle.{heightOf}
-use Rattle.coverage.specs.inner.Circle.{Around}
+use Rattle.coverage.specs.inner.Circle.{radiusMost, Around}
 use Rattle.coverage.proofs.Height.{height-beyond}
 use Rattle.coverage.proofs.Chord.{around-start}
 use Rattle.coverage.proofs.circle.height_at.Statement.{statement}
@@ -19,30 +20,21 @@ returns : tie.Need-returns Inv-loop μ-loop
 returns c = sym (height-beyond (c .before .args .radius) (c .before .args .k) (omega arith))
 
 mul-m : tie.Need-mul-m Inv-loop μ-loop
-mul-m c = omega (arith, square-le {a = c .before .args .radius} {b = 255} (omega arith))
+mul-m c = omega (arith, square-le {a = c .before .args .radius} {b = radiusMost} (omega arith))
 
 mul-m-2 : tie.Need-mul-m-2 Inv-loop μ-loop
-mul-m-2 c = omega (arith, square-le {a = c .before .args .k} {b = 255} (omega arith))
+mul-m-2 c = omega (arith, square-le {a = c .before .args .k} {b = radiusMost} (omega arith))
 
 sub-m : tie.Need-sub-m Inv-loop μ-loop
 sub-m c = square-le {a = c .before .args .k} {b = c .before .args .radius} (omega arith)
 
 mul-m-3 : tie.Need-mul-m-3 Inv-loop μ-loop
-mul-m-3 c = omega (arith, square-le {a = c .before .args .radius} {b = 255} (omega arith))
-
-mul-high : tie.Need-mul-high Inv-loop μ-loop
-mul-high c = omega arith
-
-add-high : tie.Need-add-high Inv-loop μ-loop
-add-high c = omega arith
+mul-m-3 c = omega (arith, square-le {a = c .before .args .radius} {b = radiusMost} (omega arith))
 
 loop-holds : tie.Need-loop-holds Inv-loop μ-loop
 loop-holds c =
     let a = c .before .args in
     (around-start (256 * a .radius) (262144 * (a .radius * a .radius - a .k * a .k)), omega arith)
-
-add-loop : tie.Need-add-loop Inv-loop μ-loop
-add-loop c = omega arith
 
 halved-requires : tie.Need-halved-requires Inv-loop μ-loop
 halved-requires c κs = omega (arith, c .before .loop .inv .0 .most)
@@ -60,19 +52,5 @@ returns-2 c = omega (arith, c .before .loop .inv .0 .least, c .before .loop .inv
 pub height-at-spec : {M : Type 1} → statement M
 height-at-spec =
     tie.close
-    (tie.spec
-    Inv-loop
-    μ-loop
-    returns
-    mul-m
-    mul-m-2
-    sub-m
-    mul-m-3
-    mul-high
-    add-high
-    loop-holds
-    add-loop
-    halved-requires
-    loop-less
-    loop-again
-    returns-2)
+    (tie.spec Inv-loop μ-loop returns mul-m mul-m-2 sub-m mul-m-3 (λ c. omega arith) (λ c. omega arith) loop-holds (λ c. omega arith) halved-requires
+    loop-less loop-again returns-2)

@@ -7,6 +7,7 @@ use lib.ListN.{length, getD, set, replicate, length-set}
 use lib.Seq.{getD-set-same, getD-set-other}
 use borrow.Author.Count.{below-more}
 use borrow.Author.Needs.{needs}
+use Rattle.coverage.specs.inner.Circle.{radiusMost, heightsHeld}
 use Rattle.numbers.proofs.Order.{lt-or-le, square-le}
 use Rattle.coverage.specs.Circle.{halfRoot, heightOf}
 use Rattle.coverage.proofs.Height.{half-root-le, half-root-from, half-root-high, height-top, height-beyond}
@@ -18,7 +19,7 @@ Inv-loop radius hs₀ y₀ step₀ k₀ hs y step k =
     (k ≤ radius)
     × (y ≤ 256 * radius)
     × (262144 * (radius * radius - k * k) < (2 * y + 1) * (2 * y + 1))
-    × (length hs ≡ 257)
+    × (length hs ≡ heightsHeld)
     × ((j : ℕ) → j < k → getD hs j 0 ≡ heightOf radius j)
     × ((j : ℕ) → k ≤ j → getD hs j 0 ≡ 0)
 
@@ -47,14 +48,11 @@ found R k y start h₁ h₂ h₃ =
       above = omega (arith, half-root-high start m h₃);
     }
 
-here : (c : tie.After-half-root Inv-loop μ-loop) → Found (c .before .before .before .before .args .radius) (c .before .before .before .loop .k) (c .before .before .before .loop .y) (c .half-root .result)
+here : (c : tie.After-half-root Inv-loop μ-loop) → let l = c .before .before .before in Found (l .before .args .radius) (l .loop .k) (l .loop .y) (c .half-root .result)
 here c =
     let l = c .before .before .before .loop in
     let s = c .before .search-start in
     rw (c .half-root .ensures) (found (c .before .before .before .before .args .radius) (l .k) (l .y) (s .result) (l .inv .1) (s .ensures .0) (s .ensures .1))
-
-mul-y : tie.Need-mul-y Inv-loop μ-loop
-mul-y c = search needs
 
 loop-holds : tie.Need-loop-holds Inv-loop μ-loop
 loop-holds c = (
@@ -63,44 +61,26 @@ loop-holds c = (
   height-top (c .args .radius) 0,
   refl,
   λ j h. absurd (omega arith),
-  λ j h. zeros 257 j,
+  λ j h. zeros heightsHeld j,
 )
 
 mul-m : tie.Need-mul-m Inv-loop μ-loop
-mul-m c = omega (arith, square-le {a = c .before .before .args .radius} {b = 255} (omega arith))
+mul-m c = omega (arith, square-le {a = c .before .before .args .radius} {b = radiusMost} (omega arith))
 
 mul-m-2 : tie.Need-mul-m-2 Inv-loop μ-loop
-mul-m-2 c = omega (arith, square-le {a = c .before .loop .k} {b = 255} (omega arith))
+mul-m-2 c = omega (arith, square-le {a = c .before .loop .k} {b = radiusMost} (omega arith))
 
 sub-m : tie.Need-sub-m Inv-loop μ-loop
 sub-m c = square-le (omega arith)
 
 mul-m-3 : tie.Need-mul-m-3 Inv-loop μ-loop
-mul-m-3 c = omega (arith, square-le {a = c .before .before .args .radius} {b = 255} (omega arith))
-
-search-start-requires : tie.Need-search-start-requires Inv-loop μ-loop
-search-start-requires c κs = search needs
-
-half-root-requires : tie.Need-half-root-requires Inv-loop μ-loop
-half-root-requires c κs = search needs
+mul-m-3 c = omega (arith, square-le {a = c .before .before .args .radius} {b = radiusMost} (omega arith))
 
 cast-hs : tie.Need-cast-hs Inv-loop μ-loop
 cast-hs c = omega (arith, here c .most)
 
-mul-hs : tie.Need-mul-hs Inv-loop μ-loop
-mul-hs c = search needs
-
-array-write-hs : tie.Need-array-write-hs Inv-loop μ-loop
-array-write-hs c = search needs
-
 sub-step : tie.Need-sub-step Inv-loop μ-loop
 sub-step c = here c .most
-
-add-k : tie.Need-add-k Inv-loop μ-loop
-add-k c = search needs
-
-loop-less : tie.Need-loop-less Inv-loop μ-loop
-loop-less c = search needs
 
 loop-again : tie.Need-loop-again Inv-loop μ-loop
 loop-again c =
@@ -127,22 +107,5 @@ returns c =
 pub heights-spec : {M : Type 1} → statement M
 heights-spec =
     tie.close
-    (tie.spec
-    Inv-loop
-    μ-loop
-    mul-y
-    loop-holds
-    mul-m
-    mul-m-2
-    sub-m
-    mul-m-3
-    search-start-requires
-    half-root-requires
-    cast-hs
-    mul-hs
-    array-write-hs
-    sub-step
-    add-k
-    loop-less
-    loop-again
-    returns)
+    (tie.spec Inv-loop μ-loop (λ c. search needs) loop-holds mul-m mul-m-2 sub-m mul-m-3 (λ c. search needs) (λ c. search needs) cast-hs
+    (λ c. search needs) (λ c. search needs) sub-step (λ c. search needs) (λ c. search needs) loop-again returns)

@@ -22,15 +22,6 @@ falls : (c : tie.In-loop Inv-loop μ-loop)
     → (c .before .loop .z * c .before .loop .z + c .before .before .args .m / 4) / (2 * c .before .loop .z) + 1 < c .before .loop .z
 falls c = newton (c .before .loop .z) (c .before .before .args .m / 4) (omega arith)
 
-loop-holds : tie.Need-loop-holds Inv-loop μ-loop
-loop-holds c = omega arith
-
-mul-loop : tie.Need-mul-loop Inv-loop μ-loop
-mul-loop c = omega arith
-
-add-loop : tie.Need-add-loop Inv-loop μ-loop
-add-loop c = omega arith
-
 mul-loop-2 : tie.Need-mul-loop-2 Inv-loop μ-loop
 mul-loop-2 c = omega (arith, square-le {a = c .loop .z} {b = 65536} (omega arith))
 
@@ -39,9 +30,6 @@ mul-z c = omega (arith, square-le {a = c .before .loop .z} {b = 65536} (omega ar
 
 add-z : tie.Need-add-z Inv-loop μ-loop
 add-z c = omega (arith, square-le {a = c .before .loop .z} {b = 65536} (omega arith))
-
-mul-z-2 : tie.Need-mul-z-2 Inv-loop μ-loop
-mul-z-2 c = omega arith
 
 div-z : tie.Need-div-z Inv-loop μ-loop
 div-z c = omega (arith, falls c)
@@ -55,24 +43,8 @@ loop-less c = omega (arith, falls c)
 loop-again : tie.Need-loop-again Inv-loop μ-loop
 loop-again c = omega (arith, falls c)
 
-returns : tie.Need-returns Inv-loop μ-loop
-returns c = omega arith
-
 pub lowered-spec : {M : Type 1} → statement M
 lowered-spec =
     tie.close
-    (tie.spec
-    Inv-loop
-    μ-loop
-    loop-holds
-    mul-loop
-    add-loop
-    mul-loop-2
-    mul-z
-    add-z
-    mul-z-2
-    div-z
-    add-z-2
-    loop-less
-    loop-again
-    returns)
+    (tie.spec Inv-loop μ-loop (λ c. omega arith) (λ c. omega arith) (λ c. omega arith) mul-loop-2 mul-z add-z (λ c. omega arith) div-z add-z-2 loop-less
+    loop-again (λ c. omega arith))

@@ -1,6 +1,8 @@
+-- The inner circle has the lower heights, so its coverage is never the greater, and the difference is the ring's.
 use mathlib.Core.Path.{_≡_}
-use Prim.Native.Nat.{_-_, _≤_}
+use Prim.Native.Nat.{_+_, _-_, _≤_}
 use native.Mathlib.Omega.{arith}
+use Rattle.numbers.specs.inner.Offset.{offsetMost}
 use Rattle.numbers.proofs.Coordinate.{in-range}
 use Rattle.shapes.specs.inner.Offsets.{pointOf}
 use Rattle.shapes.specs.declared.Shape.the-variants.{Ring as ring}
@@ -21,49 +23,38 @@ centre c =
 pixel : (c : tie.After-point-of2) → let a = c .before .before .before .before .args in c .point-of2 .result ≡ pointOf (a .x) (a .y)
 pixel c = let s = c .before .before .before .before in point-kept (s .fits .x) (s .fits .y) (c .point-of2 .ensures)
 
-point-of-requires : tie.Need-point-of-requires
-point-of-requires c κs = search needs
-
-point-of-requires-2 : tie.Need-point-of-requires-2
-point-of-requires-2 c κs = search needs
-
-apart-of-requires : tie.Need-apart-of-requires
-apart-of-requires c κs = search needs
-
-apart-of-requires-2 : tie.Need-apart-of-requires-2
-apart-of-requires-2 c κs = search needs
-
-cast-chords-of : tie.Need-cast-chords-of
-cast-chords-of c = search needs
-
 -- both circles are asked for the same distances, which are near enough
-near : (c : tie.After-apart-of2) → (c .before .apart-of .result ≤ 8192) × (c .apart-of2 .result ≤ 8192)
+near : (c : tie.After-apart-of2) → (c .before .apart-of .result ≤ offsetMost + 1) × (c .apart-of2 .result ≤ offsetMost + 1)
 near c =
     let p = c .before .before in
     apart-le _ _ _ _ (p .before .point-of .ensures) (p .point-of2 .ensures) (c .before .apart-of .ensures) (c .apart-of2 .ensures)
 
+abbrev start : tie.After-point-of2 → tie.Start
+start c = c .before .before .before .before
+
 chords-of-requires : tie.Need-chords-of-requires
 chords-of-requires c κs =
-    let s = c .before .before .before .before .before .before .before in
+    let s = start (c .before .before .before) in
     let o = near (c .before) in
     (ring-lawful (s .args .ring) (s .pre .0) .circle .most, o .0, o .1)
 
 sub-chords-of : tie.Need-sub-chords-of
-sub-chords-of c = let s = c .before .before .before .before .before .before .before .before .before in ring-lawful (s .args .ring) (s .pre .0) .most
-
-cast-chords-of-2 : tie.Need-cast-chords-of-2
-cast-chords-of-2 c = search needs
+sub-chords-of c =
+    let a = c .before .before .before in
+    let s = start (a .before .before) in
+    ring-lawful (s .args .ring) (s .pre .0) .most
 
 chords-of-requires-2 : tie.Need-chords-of-requires-2
 chords-of-requires-2 c κs =
-    let s = c .before .before .before .before .before .before .before .before .before in
-    let o = near (c .before .before .before) in
+    let a = c .before .before .before in
+    let s = start (a .before .before) in
+    let o = near a in
     (omega (arith, ring-lawful (s .args .ring) (s .pre .0) .circle .most), o .0, o .1)
 
 sub-t10 : tie.Need-sub-t10
 sub-t10 c =
     let a = c .before .before .before .before in
-    let g = a .before .before .before .before .before .before .args .ring in
+    let g = start (a .before .before) .args .ring in
     rw (c .before .before .chords-of .ensures .0, c .chords-of2 .ensures .0)
     (chords-rise (heightOf (g .radius - g .width)) (heightOf (g .radius)) (a .before .apart-of .result) (a .apart-of2 .result)
     (λ k. height-rises (g .radius - g .width) (g .radius) k (omega arith)))
@@ -82,15 +73,5 @@ returns c =
 pub ring-ratio-spec : {M : Type 1} → statement M
 ring-ratio-spec =
     tie.close
-    (tie.spec
-    point-of-requires
-    point-of-requires-2
-    apart-of-requires
-    apart-of-requires-2
-    cast-chords-of
-    chords-of-requires
-    sub-chords-of
-    cast-chords-of-2
-    chords-of-requires-2
-    sub-t10
-    returns)
+    (tie.spec (λ c. search needs) (λ c. search needs) (λ c. search needs) (λ c. search needs) (λ c. search needs) chords-of-requires sub-chords-of
+    (λ c. search needs) chords-of-requires-2 sub-t10 returns)

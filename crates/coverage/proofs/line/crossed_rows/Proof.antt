@@ -1,32 +1,9 @@
+-- With t not negative both outer rows are corners, and the middle one is what they leave of the whole.
 use native.Mathlib.Omega.{arith}
 use Rattle.coverage.proofs.Closed.{corners-le, crossed-is}
 use borrow.Author.Needs.{needs}
 use Rattle.coverage.proofs.line.crossed_rows.Statement.{statement}
 use Rattle.coverage.proofs.line.crossed_rows.Tie as tie
-
-mul-corner : tie.Need-mul-corner
-mul-corner c = search needs
-
-add-corner : tie.Need-add-corner
-add-corner c = search needs
-
-mul-corner-2 : tie.Need-mul-corner-2
-mul-corner-2 c = search needs
-
-sub-corner : tie.Need-sub-corner
-sub-corner c = search needs
-
-corner-requires : tie.Need-corner-requires
-corner-requires c κs = search needs
-
-mul-corner-3 : tie.Need-mul-corner-3
-mul-corner-3 c = search needs
-
-sub-corner-2 : tie.Need-sub-corner-2
-sub-corner-2 c = search needs
-
-corner-requires-2 : tie.Need-corner-requires-2
-corner-requires-2 c κs = search needs
 
 sub-t10 : tie.Need-sub-t10
 sub-t10 c =
@@ -51,15 +28,5 @@ returns c =
 pub crossed-rows-spec : {M : Type 1} → statement M
 crossed-rows-spec =
     tie.close
-    (tie.spec
-    mul-corner
-    add-corner
-    mul-corner-2
-    sub-corner
-    corner-requires
-    mul-corner-3
-    sub-corner-2
-    corner-requires-2
-    sub-t10
-    sub-t11
-    returns)
+    (tie.spec (λ c. search needs) (λ c. search needs) (λ c. search needs) (λ c. search needs) (λ c. search needs) (λ c. search needs) (λ c. search needs)
+    (λ c. search needs) sub-t10 sub-t11 returns)

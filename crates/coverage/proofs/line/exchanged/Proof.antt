@@ -6,8 +6,5 @@ use Rattle.coverage.proofs.line.exchanged.Tie as tie
 returns : tie.Need-returns
 returns c = rw (c .if1 .taken)
 
-returns-2 : tie.Need-returns-2
-returns-2 c = search needs
-
 pub exchanged-spec : {M : Type 1} → statement M
-exchanged-spec = tie.close (tie.spec returns returns-2)
+exchanged-spec = tie.close (tie.spec returns (λ c. search needs))

@@ -4,9 +4,6 @@ use borrow.Author.Needs.{needs}
 use Rattle.coverage.proofs.line.flat_rows.Statement.{statement}
 use Rattle.coverage.proofs.line.flat_rows.Tie as tie
 
-rise-requires : tie.Need-rise-requires
-rise-requires c κs = search needs
-
 sub-t7 : tie.Need-sub-t7
 sub-t7 c =
     let a = c .before .args in
@@ -20,4 +17,4 @@ returns c =
     rw (c .rise .ensures, pre .4) (flat-is (a .exact) (a .l) (a .s) (a .r) (pre .1) (pre .2) (pre .3))
 
 pub flat-rows-spec : {M : Type 1} → statement M
-flat-rows-spec = tie.close (tie.spec rise-requires sub-t7 returns)
+flat-rows-spec = tie.close (tie.spec (λ c. search needs) sub-t7 returns)

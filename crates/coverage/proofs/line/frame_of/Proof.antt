@@ -5,21 +5,6 @@ use borrow.Author.Needs.{needs}
 use Rattle.coverage.proofs.line.frame_of.Statement.{statement}
 use Rattle.coverage.proofs.line.frame_of.Tie as tie
 
-ends-of-requires : tie.Need-ends-of-requires
-ends-of-requires c κs = search needs
-
-distance-requires : tie.Need-distance-requires
-distance-requires c κs = search needs
-
-distance-requires-2 : tie.Need-distance-requires-2
-distance-requires-2 c κs = search needs
-
-exchanged-requires : tie.Need-exchanged-requires
-exchanged-requires c κs = search needs
-
-ordered-requires : tie.Need-ordered-requires
-ordered-requires c κs = search needs
-
 rising-frame-requires : tie.Need-rising-frame-requires
 rising-frame-requires c κs = rw (c .ordered .ensures) (order-rises (c .before .exchanged .result))
 
@@ -35,4 +20,4 @@ returns c =
 pub frame-of-spec : {M : Type 1} → statement M
 frame-of-spec =
     tie.close
-    (tie.spec ends-of-requires distance-requires distance-requires-2 exchanged-requires ordered-requires rising-frame-requires returns)
+    (tie.spec (λ c. search needs) (λ c. search needs) (λ c. search needs) (λ c. search needs) (λ c. search needs) rising-frame-requires returns)

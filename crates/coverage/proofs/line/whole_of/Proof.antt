@@ -1,3 +1,4 @@
+-- The three cases of the definition, in the order in which the code tries them.
 use native.Mathlib.Omega.{arith}
 use Rattle.coverage.specs.Line.{approxWhole}
 use Rattle.coverage.proofs.Closed.{whole-level, whole-slanted}
@@ -8,22 +9,12 @@ use Rattle.coverage.proofs.line.whole_of.Tie as tie
 returns : tie.Need-returns
 returns c = rw (c .before .if1 .taken, whole-level (c .before .before .args .l) (c .before .before .args .s) (c .if2 .taken))
 
-product-requires : tie.Need-product-requires
-product-requires c κs = search needs
-
-mul-result : tie.Need-mul-result
-mul-result c = search needs
-
 returns-2 : tie.Need-returns-2
 returns-2 c = rw (c .before .before .if1 .taken, whole-slanted (c .before .before .before .args .l) (c .before .before .before .args .s) (omega arith), c .product .ensures .is)
-
-mul-result-2 : tie.Need-mul-result-2
-mul-result-2 c = search needs
 
 returns-3 : tie.Need-returns-3
 unfolding approxWhole
 returns-3 c = rw (c .if1 .left)
 
 pub whole-of-spec : {M : Type 1} → statement M
-whole-of-spec =
-    tie.close (tie.spec returns product-requires mul-result returns-2 mul-result-2 returns-3)
+whole-of-spec = tie.close (tie.spec returns (λ c. search needs) (λ c. search needs) returns-2 (λ c. search needs) returns-3)

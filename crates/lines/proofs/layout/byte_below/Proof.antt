@@ -1,12 +1,7 @@
+-- The two branches are the two cases of the definition, those of `byte_above` exchanged.
 use borrow.Author.Needs.{needs}
 use Rattle.lines.proofs.layout.byte_below.Statement.{statement}
 use Rattle.lines.proofs.layout.byte_below.Tie as tie
-
-add-result : tie.Need-add-result
-add-result c = search needs
-
-sub-result : tie.Need-sub-result
-sub-result c = search needs
 
 returns : tie.Need-returns
 returns c = rw (c .before .if1 .taken)
@@ -15,4 +10,4 @@ returns-2 : tie.Need-returns-2
 returns-2 c = rw (c .before .if1 .left)
 
 pub byte-below-spec : {M : Type 1} → statement M
-byte-below-spec = tie.close (tie.spec add-result sub-result returns returns-2)
+byte-below-spec = tie.close (tie.spec (λ c. search needs) (λ c. search needs) returns returns-2)

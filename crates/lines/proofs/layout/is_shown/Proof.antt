@@ -1,3 +1,4 @@
+-- The two tests, one after the other, are the conjunction.
 use borrow.Author.Tests.{le-leb, lt-leb}
 use Rattle.lines.proofs.layout.is_shown.Statement.{statement}
 use Rattle.lines.proofs.layout.is_shown.Tie as tie

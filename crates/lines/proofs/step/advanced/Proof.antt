@@ -1,3 +1,4 @@
+-- Both branches are the cases of the next column: the rest and 2s come to 2l, or they do not.
 use mathlib.Core.Path.{refl}
 use Prim.Native.Nat.{_+_, _*_}
 use borrow.Author.Tests.{le-leb, lt-leb}
@@ -5,57 +6,26 @@ use borrow.Author.Needs.{needs}
 use Rattle.lines.proofs.step.advanced.Statement.{statement}
 use Rattle.lines.proofs.step.advanced.Tie as tie
 
-mul-whole : tie.Need-mul-whole
-mul-whole c = search needs
-
-mul-rest : tie.Need-mul-rest
-mul-rest c = search needs
-
-add-rest : tie.Need-add-rest
-add-rest c = search needs
-
-add-p : tie.Need-add-p
-add-p c = search needs
-
-add-touched : tie.Need-add-touched
-add-touched c = search needs
-
-byte-above-requires : tie.Need-byte-above-requires
-byte-above-requires c κs = search needs
-
-add-t12 : tie.Need-add-t12
-add-t12 c = search needs
-
-add-t13 : tie.Need-add-t13
-add-t13 c = search needs
+abbrev start : tie.After-struct-known5 → tie.Start
+start c = let k = c .before .before in k .before .before .before
 
 returns : tie.Need-returns
 returns c =
-    let a = c .before .before .before .before .before .before .before .before .before .args in
-    let e = le-leb (2 * a .f .l) (a .at .r + 2 * a .f .s) (c .before .before .before .if1 .taken) in
-    (record { k-is = rw (e, c .before .before .byte-above .ensures .0); g-is = rw e; r-is = rw e }, refl, refl)
-
-add-t15 : tie.Need-add-t15
-add-t15 c = search needs
+    let above = c .before .before in
+    let k = above .before .before in
+    let a = start k .args in
+    let e = le-leb (2 * a .f .l) (a .at .r + 2 * a .f .s) (above .before .if1 .taken) in
+    record { p-is = refl; k-is = rw (e, above .byte-above .ensures .0); g-is = rw e; r-is = rw e; touched-is = refl }
 
 returns-2 : tie.Need-returns-2
 returns-2 c =
-    let a = c .before .before .before .before .before .before .before .before .args in
-    let e = lt-leb (2 * a .f .l) (a .at .r + 2 * a .f .s) (c .before .before .if1 .left) in
-    (record { k-is = rw e; g-is = rw e; r-is = rw e }, refl, refl)
+    let k = c .before .before in
+    let a = start (k .before) .args in
+    let e = lt-leb (2 * a .f .l) (a .at .r + 2 * a .f .s) (k .if1 .left) in
+    record { p-is = refl; k-is = rw e; g-is = rw e; r-is = rw e; touched-is = refl }
 
 pub advanced-spec : {M : Type 1} → statement M
 advanced-spec =
     tie.close
-    (tie.spec
-    mul-whole
-    mul-rest
-    add-rest
-    add-p
-    add-touched
-    byte-above-requires
-    add-t12
-    add-t13
-    returns
-    add-t15
-    returns-2)
+    (tie.spec (λ c. search needs) (λ c. search needs) (λ c. search needs) (λ c. search needs) (λ c. search needs) (λ c. search needs) (λ c. search needs)
+    (λ c. search needs) returns (λ c. search needs) returns-2)

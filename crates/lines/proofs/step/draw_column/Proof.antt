@@ -1,3 +1,4 @@
+-- A spot keeps the page's length, so the bytes that the clip shows stay on the page; three spots, one after the other, are the column.
 use native.Mathlib.Omega.{arith}
 use mathlib.Core.Path.{sym, _∙_, ap}
 use Prim.Native.Nat.{_-_}
@@ -8,75 +9,50 @@ use borrow.Author.Needs.{needs}
 use Rattle.lines.proofs.step.draw_column.Statement.{statement}
 use Rattle.lines.proofs.step.draw_column.Tie as tie
 
-add-is-shown : tie.Need-add-is-shown
-add-is-shown c = search needs
+abbrev start : tie.After-byte-above → tie.Start
+start c = c .before .before .before .before
 
-is-shown-requires : tie.Need-is-shown-requires
-is-shown-requires c κs = search needs
+abbrev first : tie.After-is-shown2 → tie.After-spot
+first c = c .before .before .before .before
 
-byte-above-requires : tie.Need-byte-above-requires
-byte-above-requires c κs = search needs
+abbrev second : tie.After-is-shown3 → tie.After-spot2
+second c = c .before .before .before .before
 
 spot-requires : tie.Need-spot-requires
 spot-requires c κs =
-    let p = c .before .before .before .before .pre in
+    let p = start c .pre in
     (λ e. rw (c .byte-above .ensures .0) (p .0 .upper (sym (c .before .is-shown .ensures) ∙ e)), (p .1 .0, p .1 .3))
-
-is-shown-requires-2 : tie.Need-is-shown-requires-2
-is-shown-requires-2 c κs = search needs
 
 spot-requires-2 : tie.Need-spot-requires-2
 spot-requires-2 c κs =
-    let p = c .before .before .before .before .before .before .before .before .before .pre in
-    let same = ap length (c .before .before .before .before .spot .ensures .0) ∙ length-spotted (c .before .before .before .before .before .before .is-shown .result) (inkOf (c .before .before .before .before .before .before .before .before .before .args .level) (c .before .before .before .before .before .before .before .before .before .args .d)) (c .before .before .before .before .before .before .before .before .before .args .rows .upper) (c .before .before .before .before .before .byte-above .result - c .before .before .before .before .before .before .before .before .before .args .lay .origin) (c .before .before .before .before .before .before .before .before .before .args .page .now) in
-    (λ e. rw same (p .0 .middle (sym (c .is-shown2 .ensures) ∙ e)), (p .1 .1, p .1 .3))
-
-sub-is-shown : tie.Need-sub-is-shown
-sub-is-shown c = search needs
-
-is-shown-requires-3 : tie.Need-is-shown-requires-3
-is-shown-requires-3 c κs = search needs
-
-byte-below-requires : tie.Need-byte-below-requires
-byte-below-requires c κs = search needs
+    let one = first c in
+    let p = start (one .before) .pre in
+    (λ e. rw (one .spot .kept .0) (p .0 .middle (sym (c .is-shown2 .ensures) ∙ e)), (p .1 .1, p .1 .3))
 
 spot-requires-3 : tie.Need-spot-requires-3
 spot-requires-3 c κs =
-    let p = c .before .before .before .before .before .before .before .before .before .before .before .before .before .before .before .pre in
-    let one = ap length (c .before .before .before .before .before .before .before .before .before .before .spot .ensures .0) ∙ length-spotted (c .before .before .before .before .before .before .before .before .before .before .before .before .is-shown .result) (inkOf (c .before .before .before .before .before .before .before .before .before .before .before .before .before .before .before .args .level) (c .before .before .before .before .before .before .before .before .before .before .before .before .before .before .before .args .d)) (c .before .before .before .before .before .before .before .before .before .before .before .before .before .before .before .args .rows .upper) (c .before .before .before .before .before .before .before .before .before .before .before .byte-above .result - c .before .before .before .before .before .before .before .before .before .before .before .before .before .before .before .args .lay .origin) (c .before .before .before .before .before .before .before .before .before .before .before .before .before .before .before .args .page .now) in
-    let two = ap length (c .before .before .before .before .before .spot2 .ensures .0) ∙ length-spotted (c .before .before .before .before .before .before .is-shown2 .result) (inkOf (c .before .before .before .before .before .before .before .before .before .before .before .before .before .before .before .args .level) (c .before .before .before .before .before .before .before .before .before .before .before .before .before .before .before .args .d)) (c .before .before .before .before .before .before .before .before .before .before .before .before .before .before .before .args .rows .middle) (c .before .before .before .before .before .before .before .before .before .before .before .before .before .before .before .args .k - c .before .before .before .before .before .before .before .before .before .before .before .before .before .before .before .args .lay .origin) (c .before .before .before .before .before .before .before .before .before .before .spot .last .0) in
-    (λ e. rw (c .byte-below .ensures, two, one) (p .0 .lower (sym (c .before .is-shown3 .ensures) ∙ e)), (p .1 .2, p .1 .3))
-
-add-result : tie.Need-add-result
-add-result c = search needs
-
-add-result-2 : tie.Need-add-result-2
-add-result-2 c = search needs
-
-same-length : tie.Need-same-length
-same-length c = search needs
+    let two = second (c .before) in
+    let one = first (two .before) in
+    let p = start (one .before) .pre in
+    (λ e. rw (c .byte-below .ensures, two .spot2 .kept .0, one .spot .kept .0) (p .0 .lower (sym (c .before .is-shown3 .ensures) ∙ e)), (p .1 .2, p .1 .3))
 
 returns : tie.Need-returns
-returns c = (
-  rw (c .before .before .spot3 .ensures .0, c .before .before .before .before .before .before .before .before .spot2 .ensures .0, c .before .before .before .before .before .before .before .before .before .before .before .before .before .spot .ensures .0, c .before .before .before .before .before .before .before .before .before .before .before .before .before .before .before .is-shown .ensures, c .before .before .before .before .before .before .before .before .before .is-shown2 .ensures, c .before .before .before .before .is-shown3 .ensures, c .before .before .before .before .before .before .before .before .before .before .before .before .before .before .byte-above .ensures .0, c .before .before .before .byte-below .ensures),
-  (rw (c .before .before .spot3 .ensures .1, c .before .before .before .before .before .before .before .before .spot2 .ensures .1, c .before .before .before .before .before .before .before .before .before .before .before .before .before .spot .ensures .1, c .before .before .before .before .before .before .before .before .before .before .before .before .before .before .before .is-shown .ensures, c .before .before .before .before .before .before .before .before .before .is-shown2 .ensures, c .before .before .before .before .is-shown3 .ensures), omega (arith, c .before .before .spot3 .ensures .2, c .before .before .before .before .before .before .before .before .spot2 .ensures .2, c .before .before .before .before .before .before .before .before .before .before .before .before .before .spot .ensures .2)),
-)
+returns c =
+    let three = c .before .before in
+    let shown3 = three .before .before in
+    let two = shown3 .before .before .before .before in
+    let shown2 = two .before in
+    let one = shown2 .before .before .before .before in
+    let above = one .before in
+    let a = three .spot3 .ensures in
+    let b = two .spot2 .ensures in
+    let d = one .spot .ensures in (
+      rw (a .0, b .0, d .0, above .before .is-shown .ensures, shown2 .is-shown2 .ensures, shown3 .is-shown3 .ensures, above .byte-above .ensures .0, three .before .byte-below .ensures),
+      (rw (a .1, b .1, d .1, above .before .is-shown .ensures, shown2 .is-shown2 .ensures, shown3 .is-shown3 .ensures), omega (arith, a .2, b .2, d .2)),
+    )
 
 pub draw-column-spec : {M : Type 1} → statement M
 draw-column-spec =
     tie.close
-    (tie.spec
-    add-is-shown
-    is-shown-requires
-    byte-above-requires
-    spot-requires
-    is-shown-requires-2
-    spot-requires-2
-    sub-is-shown
-    is-shown-requires-3
-    byte-below-requires
-    spot-requires-3
-    add-result
-    add-result-2
-    same-length
-    returns)
+    (tie.spec (λ c. search needs) (λ c. search needs) (λ c. search needs) spot-requires (λ c. search needs) spot-requires-2 (λ c. search needs)
+    (λ c. search needs) (λ c. search needs) spot-requires-3 (λ c. search needs) (λ c. search needs) (λ c. search needs) returns)
