@@ -11,7 +11,7 @@ use lib.Seq.{take-at, drop-append-add, drop-drop, drop-length, getD-drop, length
 use Rattle.numbers.specs.Coordinate.{bitsOf, signedOf, wordOf, bytesOf}
 use Rattle.numbers.proofs.Coordinate.{bits-signed, bytes-word}
 use Rattle.shapes.specs.Limits.{sized}
-use Rattle.shapes.proofs.Limits.{both-true}
+use Rattle.numbers.proofs.Order.{both-true}
 use Rattle.shapes.specs.declared.Record.{Record}
 use Rattle.lists.specs.Format.{listMost, headerSize, kindSize, kindOf, fieldsOf, headerBytes, recordBytes, wordAt, headerAt, kindAt, sizeAt, decoded, recordAt}
 use Rattle.lists.specs.inner.Record.{Whole}

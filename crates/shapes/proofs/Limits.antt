@@ -13,7 +13,7 @@ use mir.Val.{SFits, hbits, toZ, ofZ}
 use mir.Facts.{toZ-ofZ}
 use Rattle.numbers.specs.inner.Order.{dist}
 use Rattle.numbers.specs.Coordinate.{inRange}
-use Rattle.numbers.specs.inner.Offset.{offsetOf}
+use Rattle.numbers.specs.inner.Offset.{offsetMost, offsetOf}
 use Rattle.numbers.proofs.Order.{lt-or-le, eq-or-ne}
 use Rattle.numbers.proofs.Integer.{diff-le, le-diff}
 use Rattle.numbers.proofs.Coordinate.{InRange, in-range, range-offset}
@@ -44,10 +44,6 @@ pub or-clear : (a b : Bool) → a || b ≡ false → (a ≡ false) × (b ≡ fal
 or-clear true b e = absurd (let z : _≡_ {A = ℕ} 0 1 = cc in omega arith)
 or-clear false b e = (refl, e)
 
-pub both-true : (a b : Bool) → a && b ≡ true → (a ≡ true) × (b ≡ true)
-both-true true b e = (refl, e)
-both-true false b e = absurd (let z : _≡_ {A = ℕ} 0 1 = cc in omega arith)
-
 -- a refusal that is tried last is the answer
 pub tried-last : (f : ℕ) → cond (ltb 0 f) f 0 ≡ f
 tried-last zero = refl
@@ -67,13 +63,13 @@ T-both : (a b : Bool) → T (a && b) → T a × T b
 T-both true b h = (tt, h)
 T-both false b h = absurd h
 
--- a coordinate out of range has the offset 8,192
-pub outside-offset : (z : ℤ) → outside z ≡ ltb 8191 (offsetOf z)
-outside-offset z = ap not (range-offset z) ∙ go (lt-or-le (offsetOf z) 8192)
+-- a coordinate out of range has an offset above the greatest
+pub outside-offset : (z : ℤ) → outside z ≡ ltb offsetMost (offsetOf z)
+outside-offset z = ap not (range-offset z) ∙ go (lt-or-le (offsetOf z) (offsetMost + 1))
   where
-    go : (offsetOf z < 8192) ⊎ (8192 ≤ offsetOf z) → not (ltb (offsetOf z) 8192) ≡ ltb 8191 (offsetOf z)
-    go (inl h) = rw (lt-ltb (offsetOf z) 8192 h, le-ltb 8191 (offsetOf z) (omega arith))
-    go (inr h) = rw (le-ltb (offsetOf z) 8192 h, lt-ltb 8191 (offsetOf z) (omega arith))
+    go : (offsetOf z < offsetMost + 1) ⊎ (offsetMost + 1 ≤ offsetOf z) → not (ltb (offsetOf z) (offsetMost + 1)) ≡ ltb offsetMost (offsetOf z)
+    go (inl h) = rw (lt-ltb (offsetOf z) (offsetMost + 1) h, le-ltb offsetMost (offsetOf z) (omega arith))
+    go (inr h) = rw (le-ltb (offsetOf z) (offsetMost + 1) h, lt-ltb offsetMost (offsetOf z) (omega arith))
 
 in-of : {z : ℤ} → outside z ≡ false → InRange z
 in-of {z} e = in-range z (not-false (inRange z) e)
@@ -104,7 +100,7 @@ point-kept f g e = rw (toZ-ofZ f, toZ-ofZ g) at e
 -- the refusals of a line by the offsets of its ends: these tell the range, and in range also whether two coordinates are the same
 pub line-refusals : (l : Line) (e : Ends) → e ≡ endsOf l
     → shapeRefusal (line l)
-    ≡ cond (ltb 8191 (e .x0) || ltb 8191 (e .y0) || ltb 8191 (e .x1) || ltb 8191 (e .y1)) 7 (cond (eqb (e .x0) (e .x1) && eqb (e .y0) (e .y1)) 9 0)
+    ≡ cond (ltb offsetMost (e .x0) || ltb offsetMost (e .y0) || ltb offsetMost (e .x1) || ltb offsetMost (e .y1)) 7 (cond (eqb (e .x0) (e .x1) && eqb (e .y0) (e .y1)) 9 0)
 unfolding shapeRefusal offRange refusalsOf
 line-refusals l e h =
     rw (h, ← outside-offset (l .x0), ← outside-offset (l .y0), ← outside-offset (l .x1), ← outside-offset (l .y1))
@@ -121,7 +117,7 @@ line-refusals l e h =
 
 -- those of a disc
 pub disc-refusals : (d : Disc) (p : Point) → p ≡ pointOf (d .x) (d .y)
-    → shapeRefusal (disc d) ≡ cond (ltb 8191 (p .x) || ltb 8191 (p .y)) 7 (cond (ltb (d .radius) 1 || ltb radiusMost (d .radius)) 10 0)
+    → shapeRefusal (disc d) ≡ cond (ltb offsetMost (p .x) || ltb offsetMost (p .y)) 7 (cond (ltb (d .radius) 1 || ltb radiusMost (d .radius)) 10 0)
 unfolding shapeRefusal offRange refusalsOf
 disc-refusals d p h = rw (h, outside-offset (d .x), outside-offset (d .y))
 

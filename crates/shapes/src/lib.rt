@@ -1,4 +1,5 @@
 // The shapes, the settings and the records of a drawing list, and the limits of each.
+use numbers::OFFSET_MOST;
 ghost use mathlib.Core.Path.{_≡_};
 ghost use Rattle.shapes.specs.Limits.{sizeRefusal, clipRefusal, shapeRefusal, recordRefusal};
 ghost use Rattle.shapes.specs.inner.Offsets.{pointOf, endsOf};
@@ -134,16 +135,16 @@ fn line_refusal(line: Line) -> u8
     ensures { λ r. ⌜ r ≡ shapeRefusal (Shape.Line line) ⌝ }
 {
     let e = ends_of(line);
-    if 8191 < e.x0 {
+    if OFFSET_MOST < e.x0 {
         return 7;
     }
-    if 8191 < e.y0 {
+    if OFFSET_MOST < e.y0 {
         return 7;
     }
-    if 8191 < e.x1 {
+    if OFFSET_MOST < e.x1 {
         return 7;
     }
-    if 8191 < e.y1 {
+    if OFFSET_MOST < e.y1 {
         return 7;
     }
     if e.x0 != e.x1 {
@@ -160,10 +161,10 @@ fn disc_refusal(disc: Disc) -> u8
     ensures { λ r. ⌜ r ≡ shapeRefusal (Shape.Disc disc) ⌝ }
 {
     let p = point_of(disc.x, disc.y);
-    if 8191 < p.x {
+    if OFFSET_MOST < p.x {
         return 7;
     }
-    if 8191 < p.y {
+    if OFFSET_MOST < p.y {
         return 7;
     }
     if disc.radius < 1 {

@@ -4,6 +4,7 @@ use mathlib.Core.Bool.{cond, _||_}
 use borrow.Author.Needs.{needs}
 use borrow.Author.Tests.{lt-ltb, le-ltb}
 use lib.Dec.{ltb}
+use Rattle.numbers.specs.inner.Offset.{offsetMost}
 use Rattle.shapes.specs.Limits.{radiusMost, shapeRefusal}
 use Rattle.shapes.specs.declared.Disc.{Disc}
 use Rattle.shapes.specs.declared.Point.{Point}
@@ -19,7 +20,7 @@ module _ (c : tie.After-point-of) where
   abbrev p : Point
   p = c .point-of .result
 
-  told : shapeRefusal (disc d) ≡ cond (ltb 8191 (p .x) || ltb 8191 (p .y)) 7 (cond (ltb (d .radius) 1 || ltb radiusMost (d .radius)) 10 0)
+  told : shapeRefusal (disc d) ≡ cond (ltb offsetMost (p .x) || ltb offsetMost (p .y)) 7 (cond (ltb (d .radius) 1 || ltb radiusMost (d .radius)) 10 0)
   told =
       let known = c .before .before .struct-told .given in
       disc-refusals d p (point-kept (record { sfits = known .0 .1 }) (record { sfits = known .1 .0 .1 }) (c .point-of .ensures))

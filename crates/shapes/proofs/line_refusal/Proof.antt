@@ -4,6 +4,7 @@ use mathlib.Core.Bool.{cond, _&&_, _||_}
 use borrow.Author.Needs.{needs}
 use borrow.Author.Tests.{lt-ltb, le-ltb, eq-eqb, ne-eqb}
 use lib.Dec.{ltb, eqb}
+use Rattle.numbers.specs.inner.Offset.{offsetMost}
 use Rattle.shapes.specs.Limits.{shapeRefusal}
 use Rattle.shapes.specs.declared.Ends.{Ends}
 use Rattle.shapes.specs.declared.Line.{Line}
@@ -19,7 +20,7 @@ module _ (c : tie.After-ends-of) where
   abbrev e : Ends
   e = c .ends-of .result
 
-  told : shapeRefusal (line l) ≡ cond (ltb 8191 (e .x0) || ltb 8191 (e .y0) || ltb 8191 (e .x1) || ltb 8191 (e .y1)) 7 (cond (eqb (e .x0) (e .x1) && eqb (e .y0) (e .y1)) 9 0)
+  told : shapeRefusal (line l) ≡ cond (ltb offsetMost (e .x0) || ltb offsetMost (e .y0) || ltb offsetMost (e .x1) || ltb offsetMost (e .y1)) 7 (cond (eqb (e .x0) (e .x1) && eqb (e .y0) (e .y1)) 9 0)
   told = line-refusals l e (c .ends-of .ensures)
 
 returns : tie.Need-returns

@@ -5,8 +5,9 @@ use Rattle.greystroke.specs.Lists.{readAnswer}
 use Rattle.greystroke.proofs.list.greystroke_read_record.Statement.{statement}
 use Rattle.greystroke.proofs.list.greystroke_read_record.Tie as tie
 
-returns : tie.Need-returns
-returns c = c .read-answer .ensures ∙ ap readAnswer (c .before .read-record .ensures)
-
 pub greystroke-read-record-spec : {M : Type 1} → statement M
-greystroke-read-record-spec = tie.close (tie.spec (λ c κs. search needs) (λ c κs. search needs) returns)
+greystroke-read-record-spec =
+    tie.close
+    (tie.spec
+    (λ c κs. search needs) (λ c κs. search needs)
+    (λ c. c .read-answer .ensures ∙ ap readAnswer (c .before .read-record .ensures)))

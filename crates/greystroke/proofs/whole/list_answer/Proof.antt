@@ -4,15 +4,10 @@ use borrow.Author.Needs.{needs}
 use Rattle.greystroke.proofs.whole.list_answer.Statement.{statement}
 use Rattle.greystroke.proofs.whole.list_answer.Tie as tie
 
-returns : tie.Need-returns
-unfolding listAnswered
-returns c = cc
-
-returns-2 : tie.Need-returns-2
-unfolding listAnswered
-returns-2 c = cc
-
 pub list-answer-spec : {M : Type 1} → statement M
+unfolding listAnswered
 list-answer-spec =
     tie.close
-    (tie.spec (λ c. search needs) (λ c. search needs) (λ c. search needs) (λ c. search needs) (λ c. search needs) returns returns-2)
+    (tie.spec
+    (λ c. search needs) (λ c. search needs) (λ c. search needs) (λ c. search needs) (λ c. search needs) (λ c. cc)
+    (λ c. cc))

@@ -7,8 +7,9 @@ use Rattle.shapes.proofs.Limits.{kept}
 use Rattle.lists.proofs.format.coordinate_at.Statement.{statement}
 use Rattle.lists.proofs.format.coordinate_at.Tie as tie
 
-returns : tie.Need-returns
-returns c = kept w16 _ (c .signed .ok) ∙ c .signed .ensures ∙ ap signedOf (c .before .word-at .ensures)
-
 pub coordinate-at-spec : {M : Type 1} → statement M
-coordinate-at-spec = tie.close (tie.spec (λ c κs. search needs) (λ c κs. search needs) returns)
+coordinate-at-spec =
+    tie.close
+    (tie.spec
+    (λ c κs. search needs) (λ c κs. search needs)
+    (λ c. kept w16 _ (c .signed .ok) ∙ c .signed .ensures ∙ ap signedOf (c .before .word-at .ensures)))

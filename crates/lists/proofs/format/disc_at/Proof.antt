@@ -7,9 +7,6 @@ use Rattle.shapes.proofs.Limits.{kept}
 use Rattle.lists.proofs.format.disc_at.Statement.{statement}
 use Rattle.lists.proofs.format.disc_at.Tie as tie
 
-cast-t6 : tie.Need-cast-t6
-cast-t6 c = omega (arith, c .shared-slice-known2 .given 5)
-
 returns : tie.Need-returns
 returns c =
     let coordinate-at = c .before .before .coordinate-at in
@@ -21,4 +18,7 @@ returns c =
 pub disc-at-spec : {M : Type 1} → statement M
 disc-at-spec =
     tie.close
-    (tie.spec (λ c κs. search needs) (λ c κs. search needs) (λ c. search needs) cast-t6 returns)
+    (tie.spec
+    (λ c κs. search needs) (λ c κs. search needs) (λ c. search needs)
+    (λ c. omega (arith, c .shared-slice-known2 .given 5))
+    returns)

@@ -7,12 +7,6 @@ use Rattle.shapes.proofs.Limits.{kept}
 use Rattle.lists.proofs.format.ring_at.Statement.{statement}
 use Rattle.lists.proofs.format.ring_at.Tie as tie
 
-cast-t6 : tie.Need-cast-t6
-cast-t6 c = omega (arith, c .shared-slice-known2 .given 5)
-
-cast-t9 : tie.Need-cast-t9
-cast-t9 c = omega (arith, c .shared-slice-known3 .given 6)
-
 returns : tie.Need-returns
 returns c =
     let coordinate-at = c .before .before .before .coordinate-at in
@@ -26,7 +20,7 @@ ring-at-spec =
     tie.close
     (tie.spec
     (λ c κs. search needs) (λ c κs. search needs) (λ c. search needs)
-    cast-t6
+    (λ c. omega (arith, c .shared-slice-known2 .given 5))
     (λ c. search needs)
-    cast-t9
+    (λ c. omega (arith, c .shared-slice-known3 .given 6))
     returns)

@@ -3,8 +3,8 @@ use mathlib.Core.Path.{refl}
 use Rattle.lists.proofs.write.refused.Statement.{statement}
 use Rattle.lists.proofs.write.refused.Tie as tie
 
-returns : tie.Need-returns
-returns c = refl
-
 pub refused-spec : {M : Type 1} → statement M
-refused-spec = tie.close (tie.spec returns)
+refused-spec =
+    tie.close
+    (tie.spec
+    (λ c. refl))
