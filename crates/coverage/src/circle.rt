@@ -64,8 +64,11 @@ fn search_start(y: u64, step: u64, m: u64) -> u64
     if m < odd * odd { t } else { y }
 }
 
+// The greatest radius.
+pub const RADIUS_MOST: usize = 255;
+
 // How many heights are held: those at 0 to one above the greatest radius.
-pub const HEIGHTS: usize = 257;
+pub const HEIGHTS: usize = RADIUS_MOST + 2;
 
 // The heights of the circle of a radius.
 pub fn heights(radius: u64) -> [u32; HEIGHTS]

@@ -13,11 +13,13 @@ pub const ORIGIN: usize = numbers::ORIGIN as usize;
 // Row 0 of a frame, as an index.
 pub const ROW_ORIGIN: usize = coverage::line::ROW_ORIGIN as usize;
 
-// The last row; the row of pixel 0 over a first end at offset 0; and the same where rows are mirrored.
+// No row is above this one.
 pub const LAST_ROW: usize = 2 * ROW_ORIGIN - 1;
 
+// The row of pixel 0 where the first end is at offset 0.
 const RAISED: usize = ROW_ORIGIN + ORIGIN;
 
+// One above that row where rows are mirrored.
 const MIRRORED: usize = ROW_ORIGIN - ORIGIN;
 
 // How a line's frame lies on a page: the bytes from one column to the next and from one row to the next, whether rows are mirrored,

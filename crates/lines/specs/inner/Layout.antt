@@ -1,5 +1,4 @@
--- How the frame of a line lies on a page. p is the page's column of a frame's column, or its row where the line is
--- steep.
+-- How the frame of a line lies on a page: p is the page's column of a frame's column, or its row where the line is steep.
 use mathlib.Core.Bool.{Bool, true, cond, _&&_}
 use mathlib.Core.Path.{_≡_}
 use mathlib.Core.List.{List}
