@@ -7,17 +7,16 @@ use native.Mathlib.Nat.{le-trans}
 use native.Mathlib.Omega.{arith}
 use Rattle.numbers.specs.inner.Offset.{origin, offsetMost}
 use Rattle.shapes.specs.Limits.{radiusMost}
-use Rattle.page.specs.inner.Ink.{inkOf}
 use Rattle.page.specs.inner.Paint.{inView, Lawful, Drawn}
 use Rattle.page.specs.declared.View.{View}
-use Rattle.page.proofs.Clip.{Inside, Outside, left-of, right-of, above, below, clip-ext, clip-shrink, clip-zero}
+use Rattle.page.proofs.Clip.{Inside, Outside, left-of, right-of, above, below, clip-shrink, clip-zero}
 use Rattle.page.proofs.Drawn.{drawn-none, drawn-ext}
-use Rattle.coverage.specs.Circle.{heightOf, chords}
+use Rattle.coverage.specs.Circle.{heightOf}
 use Rattle.coverage.specs.inner.Circle.{apart}
 use Rattle.coverage.proofs.Height.{height-most, height-falls, height-rises}
-use Rattle.circles.specs.inner.Row.{at, between, betweenOn, RingDrawn, Heights, Nested, Reached, Ready, boxed}
+use Rattle.circles.specs.inner.Row.{at, between, betweenOn, Heights, Nested, Reached, Ready, boxed}
 use Rattle.circles.specs.declared.rows.Ring.{Ring}
-use Rattle.circles.proofs.Chords.{chords-far, chords-none, heights-wider}
+use Rattle.circles.proofs.Chords.{chords-far, heights-wider}
 use Rattle.page.proofs.Clamp.{clamped-low, clamped-high, clamped-rises, before-clamped, from-clamped, between-clamped}
 use Rattle.circles.proofs.Apart.{apart-near, apart-left, apart-right}
 

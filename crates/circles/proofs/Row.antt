@@ -1,6 +1,6 @@
 -- Laws of a row that is drawn in stretches.
 use mathlib.Core.Path.{_≡_, sym, subst}
-use mathlib.Core.Logic.{_⊎_, inl, inr, ⊎-elim}
+use mathlib.Core.Logic.{_⊎_, ⊎-elim}
 use mathlib.Core.List.{List}
 use Prim.Native.Nat.{ℕ, _+_, _-_, _≤_, _<_}
 use native.Mathlib.Omega.{arith}
@@ -8,8 +8,8 @@ use lib.ListN.{length}
 use Rattle.numbers.specs.inner.Offset.{origin}
 use Rattle.page.specs.inner.Paint.{clipped, Drawn, clamped}
 use Rattle.page.specs.declared.View.{View}
-use Rattle.page.proofs.Clip.{Inside, Outside, left-of, right-of, above, below, clip-ext, clip-shrink, clip-columns}
-use Rattle.page.proofs.Drawn.{drawn-ext, drawn-join, drawn-length, drawn-row}
+use Rattle.page.proofs.Clip.{clip-columns}
+use Rattle.page.proofs.Drawn.{drawn-join, drawn-length, drawn-row}
 use Rattle.coverage.specs.inner.Circle.{apart}
 use Rattle.circles.specs.inner.Row.{betweenOn, Ready, Measured, Band, RingDrawn, leftOf, rightOf}
 use Rattle.circles.specs.declared.rows.Ring.{Ring}

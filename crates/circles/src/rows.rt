@@ -15,7 +15,7 @@ ghost use Rattle.shapes.specs.Limits.{radiusMost};
 ghost use Rattle.numbers.specs.Sum.{sumTo};
 ghost use Rattle.page.specs.inner.Ink.{inkOf};
 ghost use Rattle.page.specs.Page.{over};
-ghost use Rattle.page.specs.inner.Paint.{dot, touch, clipped, Lawful, Drawn, clamped};
+ghost use Rattle.page.specs.inner.Paint.{dot, touch};
 ghost use Rattle.coverage.specs.inner.Circle.{apart};
 ghost use Rattle.circles.specs.inner.Row.{at, between, Nested, leftOf, rightOf, Ready, Band, RingDrawn};
 

@@ -4,11 +4,11 @@ ghost use Prim.Native.Nat.{ℕ, _+_, _*_, _-_, _^_, _≤_, _<_, min};
 ghost use lib.ListN.{getD};
 ghost use Rattle.numbers.specs.Coordinate.{inRange};
 ghost use Rattle.numbers.specs.inner.Offset.{offsetMost};
-ghost use Rattle.shapes.specs.Limits.{shapeRefusal};
+ghost use Rattle.shapes.specs.Limits.{shapeRefusal, radiusMost};
 ghost use Rattle.shapes.specs.declared.Shape.the-variants.{Disc as asDisc, Ring as asRing};
 ghost use mathlib.Core.Bool.{true};
 ghost use Rattle.coverage.specs.Circle.{halfRoot, heightOf, chords};
-ghost use Rattle.coverage.specs.inner.Circle.{radiusMost, apart, Narrowed};
+ghost use Rattle.coverage.specs.inner.Circle.{apart, Narrowed};
 ghost use Rattle.coverage.specs.Coverage.{ratioOf};
 
 // The whole number nearest to half the square root of m, searched downwards from y.
@@ -65,7 +65,7 @@ fn search_start(y: u64, step: u64, m: u64) -> u64
 }
 
 // The greatest radius.
-pub const RADIUS_MOST: usize = 255;
+const RADIUS_MOST: usize = shapes::RADIUS_MOST as usize;
 
 // How many heights are held: those at 0 to one above the greatest radius.
 pub const HEIGHTS: usize = RADIUS_MOST + 2;

@@ -16,7 +16,7 @@ use Rattle.page.proofs.Drawn.{drawn-none, drawn-join}
 use Rattle.coverage.specs.declared.line.Frame.{Frame}
 use Rattle.page.specs.declared.View.{View}
 use Rattle.lines.specs.inner.Layout.{EndInside, Between, strip, edgeBy}
-use Rattle.lines.specs.inner.Stroke.{At, Prepared, Standing, Steppable, Walkable, Extended}
+use Rattle.lines.specs.inner.Stroke.{At, Prepared, Standing, Steppable, WalkReady, Extended}
 use Rattle.lines.specs.declared.step.Step.{Step}
 use Rattle.lines.specs.declared.step.Stroke.{Stroke}
 use Rattle.lines.proofs.Strip.{strip-join, strip-none}
@@ -80,7 +80,7 @@ extended-whole {ink} {s} {size} {e} {from} {to} ready within zero x most past =
 
 -- where a walk begins
 pub walkable-first : {s : Stroke} {at : Step} {p e size : ℕ} → Prepared s size → Between (s .view) (s .frame) p e → At (s .frame) (s .layout) at → at .p ≡ p
-    → at .touched ≡ 0 → Walkable s at e size
+    → at .touched ≡ 0 → WalkReady s at e size
 walkable-first ready b is p-is zero =
     record {
       ready = ready;
@@ -90,11 +90,11 @@ walkable-first ready b is p-is zero =
     }
 
 -- and where it goes on
-pub walkable-on : {ink : ℕ → ℕ → ℕ} {s : Stroke} {at to : Step} {e size size′ : ℕ} {l m : List ℕ} → size′ ≡ size → Walkable s at e size
-    → Extended ink s at to l m → to .p ≤ e → Walkable s to e size′
+pub walkable-on : {ink : ℕ → ℕ → ℕ} {s : Stroke} {at to : Step} {e size size′ : ℕ} {l m : List ℕ} → size′ ≡ size → WalkReady s at e size
+    → Extended ink s at to l m → to .p ≤ e → WalkReady s to e size′
 walkable-on {s = s} same w x h = record { ready = subst (Prepared s) (sym same) (w .ready); standing = x .standing; order = h; within = w .within }
 
-pub steppable : {ink : ℕ → ℕ → ℕ} {s : Stroke} {at to : Step} {e size size′ : ℕ} {l m : List ℕ} → size′ ≡ size → Walkable s at e size → Extended ink s at to l m → to .p < e
+pub steppable : {ink : ℕ → ℕ → ℕ} {s : Stroke} {at to : Step} {e size size′ : ℕ} {l m : List ℕ} → size′ ≡ size → WalkReady s at e size → Extended ink s at to l m → to .p < e
     → Steppable s to size′
 steppable {s = s} {to = to} same w x h =
     record { ready = subst (Prepared s) (sym same) (w .ready); standing = x .standing; within = within-next (to .p) (w .within) h }

@@ -21,7 +21,7 @@ ghost use Rattle.coverage.specs.inner.OnPage.{shapeOn};
 ghost use Rattle.page.specs.inner.Ink.{inkOf};
 ghost use Rattle.page.specs.inner.Paint.{inView, Lawful, Drawn};
 ghost use Rattle.lines.specs.inner.Layout.{Between, Columns, strip};
-ghost use Rattle.lines.specs.inner.Stroke.{Walkable, Extended};
+ghost use Rattle.lines.specs.inner.Stroke.{WalkReady, Extended};
 
 // The columns of the page, or its rows, from one to before another.
 pub struct Span {
@@ -38,7 +38,7 @@ fn goes_on(at: Step, top: usize, end: usize) -> bool
 
 // Draws columns under the clip, to end or to the first above row top.
 fn walk_clipped(page: &mut [u8], s: Stroke, from: Step, top: usize, end: usize) -> Step
-    requires { ⌜ Walkable s from end (length (now page)) ⌝ }
+    requires { ⌜ WalkReady s from end (length (now page)) ⌝ }
     ensures { λ to. ⌜ Extended (inkOf (s .level) (s .d)) s from to (now (page .entry)) (now (page .exit)) × (to .p ≤ end) × (to .p < end → top < to .g) ⌝ }
 {
     let mut at = from;
@@ -50,7 +50,7 @@ fn walk_clipped(page: &mut [u8], s: Stroke, from: Step, top: usize, end: usize) 
 
 // Draws columns inside the clip, from one above its lowest row, to end or to the first in its highest row.
 fn walk_inside(page: &mut [u8], s: Stroke, from: Step, end: usize) -> Step
-    requires { ⌜ Walkable s from end (length (now page)) × (from .p < end → s .layout .low < from .g) ⌝ }
+    requires { ⌜ WalkReady s from end (length (now page)) × (from .p < end → s .layout .low < from .g) ⌝ }
     ensures { λ to. ⌜ Extended (inkOf (s .level) (s .d)) s from to (now (page .entry)) (now (page .exit)) × (to .p ≤ end) ⌝ }
 {
     let lay = s.layout;

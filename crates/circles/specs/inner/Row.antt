@@ -1,11 +1,10 @@
 -- The rows of a ring, by the heights of its two circles. A disc is a ring whose hole has radius 0.
 use mathlib.Core.Path.{_≡_}
 use mathlib.Core.List.{List}
-use Prim.Native.Nat.{ℕ, _+_, _*_, _-_, _≤_, _<_, min, max}
+use Prim.Native.Nat.{ℕ, _+_, _*_, _-_, _≤_, _<_}
 use lib.ListN.{getD}
 use Rattle.numbers.specs.inner.Offset.{origin, offsetMost}
 use Rattle.shapes.specs.Limits.{radiusMost}
-use Rattle.page.specs.inner.Ink.{inkOf}
 use Rattle.page.specs.inner.Paint.{clipped, Lawful, Drawn, clamped}
 use Rattle.page.specs.declared.View.{View}
 use Rattle.coverage.specs.inner.Circle.{apart}

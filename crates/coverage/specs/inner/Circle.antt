@@ -1,10 +1,7 @@
 -- Distances from a circle's centre, and the search for a height.
 use Prim.Native.Nat.{ℕ, _+_, _-_, _≤_, _<_}
+use Rattle.shapes.specs.Limits.{radiusMost}
 use Rattle.coverage.specs.Circle.{halfRoot}
-
--- the greatest radius
-abbrev pub radiusMost : ℕ
-radiusMost = 255
 
 -- how many heights are held: those at 0 to one above the greatest radius
 abbrev pub heightsHeld : ℕ

@@ -4,7 +4,7 @@ use mathlib.Core.Path.{sym, _∙_}
 use native.Mathlib.Omega.{arith}
 use lib.ListN.{length}
 use Rattle.coverage.proofs.Pixel.{whole-drawn}
-use Rattle.lines.specs.inner.Stroke.{Walkable}
+use Rattle.lines.specs.inner.Stroke.{WalkReady}
 use Rattle.lines.proofs.Columns.{whole-fits, layout-le, along-most}
 use Rattle.lines.proofs.Walk.{extended-join, extended-whole, walkable-first, walkable-on}
 use borrow.Author.Needs.{needs}
@@ -43,7 +43,7 @@ module _ (c : tie.After-first-step) where
   start = let laid = c .before .before .before in laid .before .before
 
   walkable : let laid = c .before .before .before in let a = laid .before .before .args in
-      Walkable (record { view = a .view; line = a .line; frame = a .f; layout = laid .layout-of .result; level = a .level; d = c .before .before .whole-of .result; m = c .before .reciprocal .result })
+      WalkReady (record { view = a .view; line = a .line; frame = a .f; layout = laid .layout-of .result; level = a .level; d = c .before .before .whole-of .result; m = c .before .reciprocal .result })
       (c .first-step .result) (a .end) (length (a .page .now))
   walkable =
       let pre = start .pre in

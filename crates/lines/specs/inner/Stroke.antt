@@ -81,7 +81,7 @@ pub record Steppable (s : Stroke) (at : Step) (size : ℕ) : Type 0 where
   pub within : EndInside (s .view) (s .frame) (at .p + 1)
 
 -- a walk may draw the columns from the one at which it stands to end
-pub record Walkable (s : Stroke) (at : Step) (end size : ℕ) : Type 0 where
+pub record WalkReady (s : Stroke) (at : Step) (end size : ℕ) : Type 0 where
   pub ready : Prepared s size
   pub standing : Standing s at
   pub order : at .p ≤ end

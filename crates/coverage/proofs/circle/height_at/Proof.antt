@@ -4,7 +4,8 @@ use Prim.Native.Nat.{_*_, _-_, _<_}
 use native.Mathlib.Omega.{arith}
 use Rattle.numbers.proofs.Order.{square-le}
 use Rattle.coverage.specs.Circle.{heightOf}
-use Rattle.coverage.specs.inner.Circle.{radiusMost, Around}
+use Rattle.shapes.specs.Limits.{radiusMost}
+use Rattle.coverage.specs.inner.Circle.{Around}
 use Rattle.coverage.proofs.Height.{height-beyond}
 use Rattle.coverage.proofs.Chord.{around-start}
 use Rattle.coverage.proofs.circle.height_at.Statement.{statement}

@@ -7,7 +7,8 @@ use lib.ListN.{length, getD, set, replicate, length-set}
 use lib.Seq.{getD-set-same, getD-set-other}
 use borrow.Author.Count.{below-more}
 use borrow.Author.Needs.{needs}
-use Rattle.coverage.specs.inner.Circle.{radiusMost, heightsHeld}
+use Rattle.shapes.specs.Limits.{radiusMost}
+use Rattle.coverage.specs.inner.Circle.{heightsHeld}
 use Rattle.numbers.proofs.Order.{lt-or-le, square-le}
 use Rattle.coverage.specs.Circle.{halfRoot, heightOf}
 use Rattle.coverage.proofs.Height.{half-root-le, half-root-from, half-root-high, height-top, height-beyond}

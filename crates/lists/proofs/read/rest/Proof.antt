@@ -1,7 +1,5 @@
 -- No refusal means that the record stands whole; after one all bytes are handed back.
 use mathlib.Core.Path.{_∙_, sym}
-use mathlib.Core.List.{List}
-use Prim.Native.Nat.{ℕ}
 use native.Mathlib.Omega.{arith}
 use borrow.Author.Needs.{needs}
 use borrow.Author.Tests.{lt-ltb, le-ltb}
