@@ -20,7 +20,7 @@ use Rattle.shapes.specs.declared.Basis.{Basis}
 use Rattle.shapes.specs.declared.Record.{Record}
 use Rattle.shapes.specs.declared.Record.the-variants.{End as end, Setting as setting, Shape as shape}
 use Rattle.lists.specs.Format.{kindOf, fieldsOf, recordBytes, coordinates, lineAt, sizeAt, decoded, recordAt}
-use Rattle.lists.specs.Read.{readRefusal, readingOf}
+use Rattle.lists.specs.Read.{readRefusal, readingOf, pastRecord}
 use Rattle.lists.specs.Write.{putAt, recordWritten, recordList}
 use Rattle.lists.specs.declared.read.Reading.the-variants.{Found}
 use Rattle.lists.proofs.Bytes.{record-size}
@@ -81,6 +81,12 @@ module _ (t : List ℕ) where
   unfolding readingOf
   read-bytes b r page lawful = simp (no-refusal b r page lawful) (ap Found (record-back b r lawful))
 
+  -- the bytes past it are handed back: drop (its size) (its bytes ++ t) = t
+  pub past-bytes : (b : Basis) (r : Record) → sizeRefusal (b .w) (b .h) ≡ 0 → recordRefusal b r ≡ 0 → pastRecord b (recordBytes r ++ t) ≡ t
+  unfolding pastRecord
+  past-bytes b r page lawful =
+      simp (no-refusal b r page lawful) (drop-at (recordBytes r) t (sizeAt (recordBytes r ++ t)) (sym (record-size r)))
+
 -- ---- the bytes of a list from the place on
 
 -- drop place (take place l ++ bs ++ rest) = bs ++ rest
@@ -99,3 +105,13 @@ read-written l place w h r e =
     ap (λ (m : List ℕ). readingOf (sized w h) (drop place m)) (sym (record-done l place w h r f .1))
     ∙ ap (readingOf (sized w h)) (drop-put l place (recordBytes r) (omega (arith, p .room .inside)))
     ∙ read-bytes (drop (place + length (recordBytes r)) l) (sized w h) r (p .page) (p .lawful)
+
+-- and the part past it is handed back: what stood behind it in the list
+pub past-written : (l : List ℕ) (place w h : ℕ) (r : Record) → recordWritten l place w h r .refusal ≡ 0
+    → pastRecord (sized w h) (drop place (recordList l place w h r)) ≡ drop (place + length (recordBytes r)) l
+past-written l place w h r e =
+    let f = written-refusal l place w h r e in
+    let p = writable (length l) place (sized w h) r f in
+    ap (λ (m : List ℕ). pastRecord (sized w h) (drop place m)) (sym (record-done l place w h r f .1))
+    ∙ ap (pastRecord (sized w h)) (drop-put l place (recordBytes r) (omega (arith, p .room .inside)))
+    ∙ past-bytes (drop (place + length (recordBytes r)) l) (sized w h) r (p .page) (p .lawful)

@@ -16,7 +16,7 @@ use Rattle.shapes.specs.declared.Record.{Record}
 use Rattle.lists.specs.Format.{listMost, headerSize, kindSize, kindOf, fieldsOf, headerBytes, recordBytes, wordAt, headerAt, kindAt, sizeAt, decoded, recordAt}
 use Rattle.lists.specs.inner.Record.{Whole}
 use Rattle.lists.specs.Read.{readRefusal}
-use Rattle.lists.specs.Write.{putAt, recordWritten, recordList, recordsList, listWritten}
+use Rattle.lists.specs.Write.{putAt, recordWritten, recordList, recordsList, listWritten, recordsWritten, writerAnswer}
 use Rattle.lists.specs.List.{markAt, accepted, recordsOf}
 use Rattle.lists.proofs.Refusals.{readable, Headed, headed}
 use Rattle.lists.specs.declared.write.Written.{Written}
@@ -141,6 +141,27 @@ records-again {w} {h} (more {s} {rs} none k p) b m place low inside most =
     ∙ put-put m place (take (sizeAt s) s) (drop (sizeAt s) s) (omega arith)
     ∙ ap (λ (bs : List ℕ). putAt place bs m) (take-append-drop (sizeAt s) s)
 
+-- no write is refused, and the place moves past each record
+answers-again : {w h : ℕ} {s : List ℕ} {rs : List Record} → Holds (sized w h) s rs → AllBytes s → (m : List ℕ) (place : ℕ) → headerSize ≤ place
+    → place + length s ≤ length m → place + length s ≤ listMost
+    → recordsWritten m place w h rs ≡ record { refusal = 0; place = place + length s; w = w; h = h }
+unfolding recordsWritten
+answers-again {w} {h} (last {s} none k all) b m place low inside most =
+    let a = done w h s none b m place low (omega arith) (omega arith) .0 in
+    let n = long w h s none b m place low (omega arith) (omega arith) in
+    rw (← a) (λ i. record { refusal = 0; place = place + (n ∙ sym all) i; w = w; h = h })
+answers-again {w} {h} (more {s} {rs} none k p) b m place low inside most =
+    let fits = readable (sized w h) s none .whole .fits in
+    let d = length-drop (sizeAt s) s in
+    let a = done w h s none b m place low (omega arith) (omega arith) .0 in
+    let n = long w h s none b m place low (omega arith) (omega arith) in
+    let e = step-list w h s none b m place low (omega arith) (omega arith) in
+    let same = put-length m place (take (sizeAt s) s) (omega (arith, length-take-le (sizeAt s) s fits)) in
+    let all : place + sizeAt s + length (drop (sizeAt s) s) ≡ place + length s = omega arith in
+    rw (← a, n, e)
+    (answers-again p (drop-bytes (sizeAt s) s b) (putAt place (take (sizeAt s) s) m) (place + sizeAt s) (omega arith) (omega arith) (omega arith)
+    ∙ (λ i. record { refusal = 0; place = all i; w = w; h = h }))
+
 -- ---- a whole list
 module _ (tests : List (Bool × ℕ)) (l : List ℕ) (rs : List Record) (b : AllBytes l) (e : recordsOf tests l ≡ accepted rs) (m : List ℕ) (place w h : ℕ) where
   -- written into a list that is as long at least, from any place and with any W and H held:
@@ -166,3 +187,17 @@ module _ (tests : List (Bool × ℕ)) (l : List ℕ) (rs : List Record) (b : All
   pub own-bytes : length m ≡ length l → listWritten m place w h (headerAt l) rs ≡ l
   own-bytes same =
       written-again (omega arith) ∙ ap (λ (bs : List ℕ). l ++ bs) (ap (λ (k : ℕ). drop k m) (sym same) ∙ drop-length m) ∙ append-nil l
+
+  -- no write is refused, and the place ends behind the list
+  pub answered-again : length l ≤ length m
+      → writerAnswer m place w h (headerAt l) rs ≡ record { refusal = 0; place = length l; w = headerAt l .w; h = headerAt l .h }
+  unfolding writerAnswer
+  answered-again fits =
+      let p = headed tests l (list-headed tests l rs e) in
+      let done = header-done m place w h (headerAt l) (header-none (length m) (headerAt l) (p .size) (omega (arith, p .least))) in
+      let rest = length-drop headerSize l in
+      let same = put-length m 0 (take headerSize l) (omega (arith, p .least, length-take-le headerSize l (p .least))) in
+      let all : headerSize + length (drop headerSize l) ≡ length l = omega (arith, p .least) in
+      rw (← done .0, ← done .1, header-again l b p)
+      (answers-again (list-holds tests l rs e) (drop-bytes headerSize l b) (putAt 0 (take headerSize l) m) headerSize (omega arith) (omega arith) (omega (arith, p .most))
+      ∙ (λ i. record { refusal = 0; place = all i; w = headerAt l .w; h = headerAt l .h }))

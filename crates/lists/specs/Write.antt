@@ -60,3 +60,18 @@ recordsList l place w h (r ∷ rs) = recordsList (recordList l place w h r) (rec
 unfoldable pub listWritten : List ℕ → ℕ → ℕ → ℕ → Header → List Record → List ℕ
 listWritten l place w h d rs =
     recordsList (headerList l d) (headerWritten l place w h d .place) (headerWritten l place w h d .w) (headerWritten l place w h d .h) rs
+
+-- what the writer answers to some records: the first refusal, or none and where it then stands
+unfoldable pub recordsWritten : List ℕ → ℕ → ℕ → ℕ → List Record → Written
+recordsWritten l place w h [] = record { refusal = 0; place = place; w = w; h = h }
+recordsWritten l place w h (r ∷ rs) =
+    cond (ltb 0 (recordWritten l place w h r .refusal))
+    (recordWritten l place w h r)
+    (recordsWritten (recordList l place w h r) (recordWritten l place w h r .place) w h rs)
+
+-- and to a header and then some records
+unfoldable pub writerAnswer : List ℕ → ℕ → ℕ → ℕ → Header → List Record → Written
+writerAnswer l place w h d rs =
+    cond (ltb 0 (headerWritten l place w h d .refusal))
+    (headerWritten l place w h d)
+    (recordsWritten (headerList l d) (headerWritten l place w h d .place) (headerWritten l place w h d .w) (headerWritten l place w h d .h) rs)
