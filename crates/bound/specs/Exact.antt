@@ -1,4 +1,4 @@
--- One pixel under the shapes that touch it: its byte, its exact blend, and the bound on how far the two are apart.
+-- One pixel under the shapes that touch it: its byte, its exact blend, and the bound on how far the two are apart (R10.3).
 use mathlib.Core.List.{List, [], _∷_}
 use Prim.Native.Nat.{ℕ, _+_, _*_, _-_}
 use Rattle.numbers.specs.Fraction.{Frac, _over_, _⊕_}

@@ -1,4 +1,4 @@
--- Discs and rings by the chord rule: a pixel's coverage is taken from the heights of the circle over its two sides.
+-- Discs and rings by the chord rule: a pixel's coverage is taken from the heights of the circle over its two sides (R5).
 use mathlib.Core.Bool.{cond}
 use Prim.Native.Nat.{ℕ, zero, suc, _+_, _*_, _-_, min, max}
 use lib.Dec.{leb}

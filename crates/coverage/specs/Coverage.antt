@@ -1,4 +1,4 @@
--- The coverage of a pixel by a shape, and what a coverage query answers.
+-- The coverage of a pixel by a shape, and what a coverage query answers (R6.3, R8.4).
 use mathlib.Core.Bool.{Bool, true, false, cond, _||_}
 use mathlib.Core.List.{_∷_}
 use Prim.Native.Nat.{ℕ, _*_}

@@ -1,4 +1,4 @@
--- The area of a pixel under one straight edge.
+-- The area of a pixel under one straight edge (R3.2, R3.3).
 use Prim.Native.Nat.{ℕ, _*_}
 use lib.IntN.{ℤ, pos, negsuc, _+ℤ_, _-ℤ_}
 

@@ -1,4 +1,4 @@
--- The frame of a line: the column and the row that a pixel has in it.
+-- The frame of a line: the column and the row that a pixel has in it (R2).
 use mathlib.Core.Bool.{Bool, cond, not}
 use Rattle.shapes.specs.Span.{steep}
 use lib.IntN.{ℤ, pos, negℤ, _-ℤ_}

@@ -1,5 +1,5 @@
 -- The two line rules, in a line's own columns and rows: l is the longer span, s the shorter, column i runs from 0 to l − 1, and row j
--- is counted from the first end.
+-- is counted from the first end (R3, R4).
 use mathlib.Core.Bool.{cond}
 use Prim.Native.Nat.{ℕ, zero, suc, _+_, _*_, _/_, _%_}
 use lib.IntN.{ℤ, pos, negsuc, _+ℤ_, _-ℤ_, _*ℤ_}

@@ -1,4 +1,4 @@
--- What drawing one shape answers, and what it leaves on the page.
+-- What drawing one shape answers, and what it leaves on the page (R8.4).
 use mathlib.Core.Bool.{cond}
 use mathlib.Core.List.{List, [], _∷_}
 use Prim.Native.Nat.{ℕ, _*_}

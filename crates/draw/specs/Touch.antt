@@ -1,4 +1,4 @@
--- Which pixels a shape touches, and what becomes of their bytes.
+-- Which pixels a shape touches, and what becomes of their bytes (R6.2, R6.4).
 use mathlib.Core.Bool.{Bool, cond, _&&_}
 use mathlib.Core.List.{List}
 use Prim.Native.Nat.{ℕ, _%_, _/_}

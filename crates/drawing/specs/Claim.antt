@@ -1,4 +1,4 @@
--- The claim about a list, whole: what drawing it answers, what it leaves on the page, and how far each byte may be from the exact blend.
+-- The claim about a list, whole: what drawing it answers, what it leaves on the page, and how far each byte may be from the exact blend (R10.3).
 use mathlib.Core.List.{List}
 use Prim.Native.Nat.{ℕ, _+_, _*_, _<_}
 use lib.ListN.{length, getD}

@@ -1,4 +1,4 @@
--- How many touches the drawings of a list make on a page of w by h.
+-- How many touches the drawings of a list make on a page of w by h (R6.4).
 use mathlib.Core.List.{List}
 use Prim.Native.Nat.{ℕ}
 use lib.ListN.{length}

@@ -1,4 +1,4 @@
--- What the drawings of a list leave on a page of w by h.
+-- What the drawings of a list leave on a page of w by h (R7.5).
 use mathlib.Core.Bool.{cond}
 use mathlib.Core.List.{List}
 use Prim.Native.Nat.{ℕ, _*_, _%_, _/_}

@@ -1,4 +1,4 @@
--- The touches of a pixel by the drawings of a list.
+-- The touches of a pixel by the drawings of a list (R6.2).
 use mathlib.Core.Bool.{cond}
 use mathlib.Core.List.{List, [], _∷_}
 use Prim.Native.Nat.{ℕ}

@@ -1,4 +1,4 @@
--- 01's printed list and its damaged copies, by computation.
+-- The list that the rules print, and its damaged copies, by computation.
 use mathlib.Core.Path.{_≡_, refl}
 use mathlib.Core.Bool.{true}
 use mathlib.Core.List.{List, [], _∷_, _++_}

@@ -1,4 +1,4 @@
--- The drawings of a list: its shapes, each with the settings in force.
+-- The drawings of a list: its shapes, each with the settings in force (R7.5).
 use mathlib.Core.List.{List, [], _∷_, _++_}
 use Rattle.shapes.specs.declared.Basis.{Basis}
 use Rattle.shapes.specs.declared.Shape.{Shape}

@@ -1,4 +1,4 @@
--- "Drawing list": the header and the records as bytes. Fields of two bytes go low byte first (`wordOf`, `bytesOf`).
+-- "Drawing list": the header and the records as bytes. Fields of two bytes go low byte first (`wordOf`, `bytesOf`) (R7.1 to R7.3).
 use mathlib.Core.Bool.{Bool, true, false, cond}
 use mathlib.Core.List.{List, [], _∷_, _++_}
 use Prim.Native.Nat.{ℕ, _+_}

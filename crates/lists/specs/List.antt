@@ -1,4 +1,4 @@
--- "A list is tried": the refusals of a whole list in their order, each with its place, and the records of an accepted one.
+-- "A list is tried": the refusals of a whole list in their order, each with its place, and the records of an accepted one (R8.2, R8.3).
 use mathlib.Core.Bool.{Bool, not, cond, _&&_}
 use mathlib.Core.List.{List, [], _∷_}
 use Prim.Native.Nat.{ℕ, zero, suc, _+_, _*_}

@@ -1,4 +1,4 @@
--- "The reader of one record, told W and H": its refusals, the record, and the bytes that it hands back.
+-- "The reader of one record, told W and H": its refusals, the record, and the bytes that it hands back (R7.6, R8.5).
 use mathlib.Core.Bool.{cond}
 use mathlib.Core.List.{List, [], _∷_}
 use Prim.Native.Nat.{ℕ}

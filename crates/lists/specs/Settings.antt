@@ -1,4 +1,4 @@
--- The settings in force.
+-- The settings in force (R7.4).
 use Rattle.shapes.specs.declared.Basis.{Basis}
 use Rattle.shapes.specs.declared.Setting.the-variants.{Clip as clip, Level as level}
 use Rattle.shapes.specs.declared.Record.{Record}

@@ -1,4 +1,4 @@
--- The writer: the list being written, the place reached, and the W and H that are held.
+-- The writer: the list being written, the place reached, and the W and H that are held (R7.7, R8.6).
 use mathlib.Core.Bool.{Bool, cond, _||_}
 use mathlib.Core.List.{List, [], _∷_, _++_}
 use Prim.Native.Nat.{ℕ, _+_, min}

@@ -1,4 +1,4 @@
--- Coordinates of shapes, and the two bytes of a 16-bit number.
+-- Coordinates of shapes, and the two bytes of a 16-bit number (R1.3, R7.1).
 use mathlib.Core.Bool.{Bool, cond, _&&_}
 use mathlib.Core.List.{List, [], _∷_}
 use Prim.Native.Nat.{ℕ, _+_, _*_, _-_, _/_, _%_}

@@ -1,4 +1,4 @@
--- Fractions of two whole numbers, compared by cross products.
+-- Fractions of two whole numbers, compared by cross products (R10.3).
 use Prim.Native.Nat.{ℕ, _+_, _*_, _≤_}
 
 pub record Frac : Type 0 where

@@ -1,4 +1,4 @@
--- Blending a level over a byte.
+-- Blending a level over a byte (R6.1).
 use Prim.Native.Nat.{ℕ, _+_, _*_, _-_}
 use Rattle.numbers.specs.Nearest.{nearest}
 

@@ -1,4 +1,4 @@
--- A page drawn pixel by pixel: of a page of width w, pixel (x, y) is byte y·w + x.
+-- A page drawn pixel by pixel: of a page of width w, pixel (x, y) is byte y·w + x (R1.2).
 use mathlib.Core.List.{List, [], _∷_}
 use Prim.Native.Nat.{ℕ, suc}
 

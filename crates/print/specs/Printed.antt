@@ -1,4 +1,4 @@
--- What is printed for a list.
+-- What is printed for a list (R9).
 use mathlib.Core.List.{List}
 use Prim.Native.Nat.{ℕ}
 use Rattle.drawing.specs.declared.Answer.{Answer}

@@ -1,4 +1,4 @@
--- The text of numbers, levels, pages and refusals, byte by byte.
+-- The text of numbers, levels, pages and refusals, byte by byte (R9).
 use mathlib.Core.Bool.{cond, _||_}
 use mathlib.Core.List.{List, [], _∷_, _++_}
 use Prim.Native.Nat.{ℕ, zero, suc, _+_, _*_, _/_, _%_}

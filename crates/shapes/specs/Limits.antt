@@ -1,4 +1,4 @@
--- "Turning down": which numbers are refused, and in which order they are tried.
+-- "Turning down": which numbers are refused, and in which order they are tried (R8).
 use mathlib.Core.Bool.{Bool, not, cond, _&&_, _||_}
 use mathlib.Core.List.{List, [], _∷_}
 use Prim.Native.Nat.{ℕ}

@@ -1,4 +1,4 @@
--- The spans of a line.
+-- The spans of a line (R2.1).
 use mathlib.Core.Bool.{Bool}
 use Prim.Native.Nat.{ℕ, min, max}
 use lib.Dec.{ltb}

@@ -1,4 +1,4 @@
--- A writer after a header and after a record: the functions of `lists` on its list, its place, its W and its H.
+-- A writer after a header and after a record: the functions of `lists` on its list, its place, its W and its H (R7.7).
 use mathlib.Core.List.{List}
 use Prim.Native.Nat.{ℕ}
 use denote.Ref.{now, at-last}

@@ -3,7 +3,7 @@
 use std::error::Error;
 use std::fmt::{self, Display, Formatter};
 
-/// A refusal, with the number that document 01 gives it.
+/// A refusal, with the number that the rules give it.
 #[derive(Clone, Copy, Debug, PartialEq, Eq)]
 pub enum Refusal {
     /// A list does not begin with the letters INK.

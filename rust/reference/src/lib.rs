@@ -1,4 +1,4 @@
-//! The rules of document 01 written out from their definitions, for testing only.
+//! The rules (docs/RULES.md) written out from their definitions, for testing only.
 //!
 //! Everything is worked out pixel by pixel in wide integers, so that each function can be read
 //! beside the paragraph it comes from. Speed is no aim.

@@ -1,4 +1,4 @@
-//! What a call can turn down, with the numbers of document 01.
+//! What a call can turn down, with the numbers of the rules.
 
 #[derive(Clone, Copy, Debug, PartialEq, Eq)]
 pub enum Refusal {
