@@ -3,7 +3,7 @@ use mathlib.Core.Path.{_≡_, refl, sym, _∙_, ap}
 use mathlib.Core.Logic.{_⊎_, inl, inr, ⊎-elim}
 use mathlib.Core.Bool.{Bool, true, false, cond}
 use Prim.Native.Nat.{ℕ, zero, suc, _+_, _*_, _-_, _≤_, _<_}
-use native.Mathlib.Nat.{mul-le-mul, div-add-mod, mod-lt, div-eq-of-lt, mod-eq-of-lt}
+use native.Mathlib.Nat.{mul-pos, mul-le-mul, div-add-mod, mod-lt, div-eq-of-lt, mod-eq-of-lt}
 use native.Mathlib.Omega.{arith}
 use lib.Dec.{T}
 use lib.IntN.{ℤ, pos, negsuc, subℕ, _+ℤ_, _-ℤ_, +ℤ-comm, -ℤ-+ℤ-cancel, +ℤ-idr}
@@ -155,6 +155,12 @@ pub whole-slanted : (l s : ℕ) → 0 < s → exactWhole l s ≡ 8 * (l * s)
 unfolding exactWhole
 whole-slanted l zero h = absurd (omega arith)
 whole-slanted l (suc s) h = omega arith
+
+pub whole-some : (exact : Bool) (l s : ℕ) → 0 < l → 0 < wholeOf exact l s
+unfolding exactWhole approxWhole
+whole-some true l zero h = omega arith
+whole-some true l (suc s) h = mul-pos {m = 8 * l} {n = suc s} (omega arith) (omega arith)
+whole-some false l s h = omega arith
 
 rows-same : {a b c a′ b′ c′ : ℕ} → a ≡ a′ → b ≡ b′ → c ≡ c′
     → _≡_ {A = Rows} (record { upper = a; middle = b; lower = c }) (record { upper = a′; middle = b′; lower = c′ })

@@ -6,6 +6,7 @@ use native.Mathlib.Omega.{arith}
 use borrow.Author.Tests.{lt-ltb, le-ltb}
 use lib.IntN.{ℤ, pos, natAbs, subℕ, _-ℤ_}
 use Rattle.numbers.specs.inner.Offset.{offsetMost, offsetOf}
+use Rattle.numbers.proofs.Order.{cond-le}
 use Rattle.numbers.proofs.Integer.{Diff, above, below, diff-sub, diff-pos, diff-minus, diff-shift, diff-unique}
 use Rattle.numbers.proofs.Coordinate.{InRange}
 use Rattle.shapes.specs.declared.Line.{Line}
@@ -19,10 +20,6 @@ use Rattle.shapes.specs.declared.Shape.the-variants.{Line as line}
 use Rattle.coverage.specs.declared.line.Frame.{Frame}
 use Rattle.coverage.proofs.Column.{part-is}
 use Rattle.coverage.proofs.Framing.{column-diff, row-rising, row-falling}
-
-either : (t : Bool) {a b m : ℕ} → a ≤ m → b ≤ m → cond t a b ≤ m
-either true h k = h
-either false h k = k
 
 -- ---- columns
 in-columns : (l : ℕ) (rule : ℕ → ℤ) {z : ℤ} {a b : ℕ} → Diff z a b → b ≤ a → a < b + l → inColumns l rule z ≡ rule (a - b)
@@ -58,7 +55,7 @@ module _ {n : Line} {f : Frame} (g : Framed n f) where
     across = cond (f .steep) (offsetOf x) (offsetOf y)
 
     pub across-le : across ≤ offsetMost
-    across-le = either (f .steep) (omega (arith, px .less)) (omega (arith, py .less))
+    across-le = cond-le (f .steep) (omega (arith, px .less)) (omega (arith, py .less))
 
     -- the rule that the line is drawn with, in column i
     abbrev ruled : ℕ → ℤ

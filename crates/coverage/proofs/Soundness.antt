@@ -3,8 +3,7 @@
 use mathlib.Core.Path.{_≡_, refl}
 use mathlib.Core.Bool.{Bool, true, false, cond}
 use mathlib.Core.Logic.{_↔_}
-use Prim.Native.Nat.{ℕ, zero, suc, _*_, _≤_, _<_}
-use native.Mathlib.Nat.{mul-pos}
+use Prim.Native.Nat.{ℕ, _*_, _≤_, _<_}
 use native.Mathlib.Omega.{arith}
 use lib.Dec.{ltb}
 use lib.IntN.{ℤ, pos, negsuc, natAbs}
@@ -21,6 +20,7 @@ use Rattle.shapes.specs.Span.{longer, shorter}
 use Rattle.coverage.specs.Frame.{columnOf, frameRow}
 use Rattle.coverage.specs.Circle.{discCover, ringCover}
 use Rattle.coverage.specs.Coverage.{inColumns, lineCover, Rule, Rules, alike, exactRule, chordRule, lineRules, rulesOf}
+use Rattle.coverage.proofs.Closed.{whole-some}
 use Rattle.coverage.proofs.Column.{part-le, same-touched, near}
 use Rattle.shapes.proofs.Span.{some-span, span-le}
 use Rattle.coverage.proofs.Chord.{disc-le, ring-le}
@@ -35,11 +35,6 @@ columns R l e a none each (pos i) = go (ltb i l)
     go true = each i
     go false = none
 columns R l e a none each (negsuc i) = none
-
-whole-pos : (l s : ℕ) → 0 < l → 0 < exactWhole l s
-unfolding exactWhole
-whole-pos l zero h = omega arith
-whole-pos l (suc s) h = mul-pos {m = 8 * l} {n = suc s} (omega arith) (omega arith)
 
 module _ (n : Line) (w : LawfulLine n) (x y : ℤ) where
   abbrev l : ℕ
@@ -90,14 +85,14 @@ alike-sound r x y h p =
 
 line-sound : (n : Line) → LawfulLine n → (x y : ℤ) (t : Bool) → SoundAt (lineRules t n) x y
 unfolding lineRules approxWhole
-line-sound n w x y true = alike-sound (exactRule n) x y (line-exact-le n w x y) (whole-pos (longer n) (shorter n) (long n w x y))
+line-sound n w x y true = alike-sound (exactRule n) x y (line-exact-le n w x y) (whole-some true (longer n) (shorter n) (long n w x y))
 line-sound n w x y false =
     let p = long n w x y in
     record {
       exact-le = line-exact-le n w x y;
-      exact-pos = whole-pos (longer n) (shorter n) p;
+      exact-pos = whole-some true (longer n) (shorter n) p;
       drawn-le = line-approx-le n w x y;
-      drawn-pos = omega arith;
+      drawn-pos = whole-some false (longer n) (shorter n) p;
       off-pos = omega arith;
       touched = line-touched n w x y;
       near = line-near n w x y;

@@ -1,13 +1,15 @@
 -- Columns drawn one after the other.
-use mathlib.Core.Bool.{Bool, true, false, cond}
-use Prim.Native.Nat.{ℕ, zero, suc, _*_, _^_, _≤_, _<_}
-use native.Mathlib.Nat.{mul-le-mul, mul-pos}
+use mathlib.Core.Bool.{Bool, true, false}
+use Prim.Native.Nat.{ℕ, zero, suc, _^_, _≤_, _<_}
+use native.Mathlib.Nat.{mul-le-mul}
 use native.Mathlib.Omega.{arith}
 use Rattle.numbers.specs.inner.Offset.{offsetMost}
 use Rattle.coverage.specs.Line.{exactWhole, approxWhole}
 use Rattle.coverage.specs.inner.Rows.{wholeOf}
 use Rattle.coverage.specs.declared.line.Frame.{Frame}
 use Rattle.coverage.specs.declared.line.Rows.{Rows}
+use Rattle.numbers.proofs.Order.{cond-le}
+use Rattle.coverage.proofs.Closed.{whole-some}
 use Rattle.coverage.proofs.Column.{Filled}
 use Rattle.page.specs.inner.Ink.{Coverage}
 use Rattle.page.specs.inner.Paint.{Lawful}
@@ -22,12 +24,6 @@ unfolding exactWhole approxWhole
 whole-most true l zero h k = omega arith
 whole-most true l (suc s) h k = omega (arith, mul-le-mul {n₁ = l} {m₁ = suc s} {n₂ = offsetMost} {m₂ = offsetMost} h (omega arith))
 whole-most false l s h k = omega arith
-
-whole-some : (t : Bool) (l s : ℕ) → 0 < l → 0 < wholeOf t l s
-unfolding exactWhole approxWhole
-whole-some true l zero h = omega arith
-whole-some true l (suc s) h = mul-pos {m = 8 * l} {n = suc s} (omega arith) (omega arith)
-whole-some false l s h = omega arith
 
 pub whole-fits : (t : Bool) (l s : ℕ) → 0 < l → s ≤ l → l ≤ offsetMost → (0 < wholeOf t l s) × (wholeOf t l s ≤ 2 ^ 30)
 whole-fits t l s p h k = (whole-some t l s p, whole-most t l s k h)
@@ -44,17 +40,11 @@ rows-cover {t} {d} {c} e w = record { upper = cover (c .upper) (omega (arith, e 
     cover n h = record { some = w .0; part = h; most = w .1 }
 
 -- ---- what the first column has
-step-le : (t : Bool) (a b : ℕ) → a ≤ 1024 → b ≤ 1024 → cond t a b ≤ 1024
-step-le true a b h k = h
-step-le false a b h k = k
-
 pub layout-le : (c : View) (f : Frame) (lay : Layout) (size : ℕ) → Lawful c size → Laid c f lay → (lay .along ≤ 1024) × (lay .across ≤ 1024)
 layout-le c f lay size w d =
-    (rw (d .along-is) (step-le (f .steep) (c .w) 1 (w .w-most) (omega arith)), rw (d .across-is) (step-le (f .steep) 1 (c .w) (omega arith) (w .w-most)))
+    (rw (d .along-is) (cond-le (f .steep) (w .w-most) (omega arith)), rw (d .across-is) (cond-le (f .steep) (omega arith) (w .w-most)))
 
 pub along-most : (c : View) (f : Frame) (size p : ℕ) → Lawful c size → p ≤ alongEnd c f → p ≤ 1024
-along-most c f size p w h = by (f .steep) h
-  where
-    by : (t : Bool) → p ≤ cond t (c .y1) (c .x1) → p ≤ 1024
-    by true h = omega (arith, w .y-most, w .h-most)
-    by false h = omega (arith, w .x-most, w .w-most)
+along-most c f size p w h =
+    let end : alongEnd c f ≤ 1024 = cond-le (f .steep) (omega (arith, w .y-most, w .h-most)) (omega (arith, w .x-most, w .w-most)) in
+    omega arith

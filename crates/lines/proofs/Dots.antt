@@ -1,9 +1,9 @@
 -- What one spot does to a page.
-use mathlib.Core.Bool.{Bool, true, false}
-use mathlib.Core.Path.{_≡_, refl, sym, ap, _∙_}
+use mathlib.Core.Bool.{true}
+use mathlib.Core.Path.{_≡_, sym, ap, _∙_}
 use mathlib.Core.List.{List}
 use Prim.Native.Nat.{ℕ, _<_}
-use lib.ListN.{getD, set, length, length-set}
+use lib.ListN.{getD, set}
 use lib.Seq.{set-getD}
 use Rattle.page.specs.Blend.{blend}
 use Rattle.page.specs.inner.Ink.{inkOf}
@@ -18,7 +18,3 @@ spotted-none ink n k l e = sym (ap (set l k) (ap (λ (m : ℕ). dot ink m (getD 
 -- a blended byte
 pub spotted-blend : (v d n k : ℕ) (l : List ℕ) → 0 < d → set l k (blend (getD l k 0) v n d) ≡ spotted true (inkOf v d) n k l
 spotted-blend v d n k l h = ap (set l k) (sym (dot-blend v d n (getD l k 0) h))
-
-pub length-spotted : (t : Bool) (ink : ℕ → ℕ → ℕ) (n k : ℕ) (l : List ℕ) → length (spotted t ink n k l) ≡ length l
-length-spotted true ink n k l = length-set l k (dot ink n (getD l k 0))
-length-spotted false ink n k l = refl

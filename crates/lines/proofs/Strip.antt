@@ -102,6 +102,11 @@ module _ (c : View) (f : Frame) (n : ℕ → ℕ → ℕ) where
           (λ z. z ∙ sym o) (in-or-none p e x y)
 
 -- ---- a line's coverage
+
+either-offset : (t : Bool) {a b : ℕ} → a ≤ 4095 → b ≤ 4095 → cond t (offsetOf (pos a)) (offsetOf (pos b)) ≡ cond t a b + origin
+either-offset true {a} h k = pixel-offset a h
+either-offset false {b = b} h k = pixel-offset b k
+
 module _ {n : Line} {f : Frame} (g : Framed n f) (x y : ℕ) (hx : x ≤ 4095) (hy : y ≤ 4095) where
   px : InRange (pos x)
   px = in-range (pos x) (pixel-in x hx)
@@ -113,18 +118,10 @@ module _ {n : Line} {f : Frame} (g : Framed n f) (x y : ℕ) (hx : x ≤ 4095) (
   a = alongOf f x y
 
   along-offset : cond (f .steep) (offsetOf (pos y)) (offsetOf (pos x)) ≡ a + origin
-  along-offset = by (f .steep)
-    where
-      by : (t : Bool) → cond t (offsetOf (pos y)) (offsetOf (pos x)) ≡ cond t y x + origin
-      by true = pixel-offset y hy
-      by false = pixel-offset x hx
+  along-offset = either-offset (f .steep) hy hx
 
   across-offset : cond (f .steep) (offsetOf (pos x)) (offsetOf (pos y)) ≡ acrossOf f x y + origin
-  across-offset = by (f .steep)
-    where
-      by : (t : Bool) → cond t (offsetOf (pos x)) (offsetOf (pos y)) ≡ cond t x y + origin
-      by true = pixel-offset x hx
-      by false = pixel-offset y hy
+  across-offset = either-offset (f .steep) hx hy
 
   -- 0 left and right of its columns
   pub line-left : a + origin < f .x → shapeOn (line n) x y ≡ 0

@@ -128,7 +128,3 @@ sfits-diff {w} p k l = record { sfits = size p k l }
     size : {z : ℤ} {a b : ℕ} → Diff z a b → a < b + 2 ^ hbits w → b ≤ a + 2 ^ hbits w → mag z < 2 ^ hbits w
     size (above p) k l = omega arith
     size (below p) k l = omega arith
-
--- equal differences of naturals
-pub sub-same : (a b c d : ℕ) → a + d ≡ c + b → subℕ a b ≡ subℕ c d
-sub-same a b c d e = diff-unique (diff-sub a b) (diff-sub c d) e

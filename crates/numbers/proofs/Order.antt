@@ -1,6 +1,6 @@
 -- Cases and orders of naturals. `omega` multiplies products out and takes each monomial for an unknown, so an order that is not
 -- linear is proved by handing it the product of two facts.
-use mathlib.Core.Bool.{Bool, true, false, _&&_}
+use mathlib.Core.Bool.{Bool, true, false, cond, _&&_}
 use mathlib.Core.Path.{_≡_, refl, subst}
 use mathlib.Core.Logic.{_⊎_, inl, inr, ⊎-elim}
 use Prim.Native.Nat.{ℕ, _+_, _*_, _≤_, _<_}
@@ -41,7 +41,13 @@ square-le p = mul-le-mul p p
 pub twice-product : (a b : ℕ) → 2 * (a * b) ≤ a * a + b * b
 twice-product a b = ⊎-elim (λ p. omega (arith, cross p p)) (λ p. omega (arith, cross p p)) (lt-or-le a b)
 
--- ---- two tests
+-- ---- tests
+
+-- either of two numbers that are at most m
+pub cond-le : (t : Bool) {a b m : ℕ} → a ≤ m → b ≤ m → cond t a b ≤ m
+cond-le true h k = h
+cond-le false h k = k
+
 pub both-true : (a b : Bool) → (a && b) ≡ true → (a ≡ true) × (b ≡ true)
 both-true true true e = (refl, refl)
 both-true true false e = absurd (let z : _≡_ {A = ℕ} 0 1 = cc in omega arith)

@@ -8,10 +8,12 @@ use Rattle.coverage.proofs.line.rise.Statement.{statement}
 use Rattle.coverage.proofs.line.rise.Tie as tie
 
 returns : tie.Need-returns
-returns c = rw (c .before .if1 .taken) (sym (rise-level (c .before .before .args .s) (c .before .before .args .r) (c .if2 .taken)))
+returns c = let a = c .before .before .args in rw (c .before .if1 .taken) (sym (rise-level (a .s) (a .r) (c .if2 .taken)))
 
 returns-2 : tie.Need-returns-2
-returns-2 c = rw (c .before .before .if1 .taken, rise-slanted (c .before .before .before .args .s) (c .before .before .before .args .r) (omega arith), c .product .ensures .is)
+returns-2 c =
+    let a = c .before .before .before .args in
+    rw (c .before .before .if1 .taken, rise-slanted (a .s) (a .r) (omega arith), c .product .ensures .is)
 
 returns-3 : tie.Need-returns-3
 unfolding riseOf

@@ -6,19 +6,19 @@ use Rattle.coverage.proofs.line.row_at.Statement.{statement}
 use Rattle.coverage.proofs.line.row_at.Tie as tie
 
 returns : tie.Need-returns
-returns c = row-below (c .before .args .rows) (c .before .args .g) (c .before .args .base) (omega arith)
+returns c = let a = c .before .args in row-below (a .rows) (a .g) (a .base) (omega arith)
 
 returns-2 : tie.Need-returns-2
-returns-2 c = row-lower (c .before .before .args .rows) (c .before .before .args .g) (c .before .before .args .base) (omega arith)
+returns-2 c = let a = c .before .before .args in row-lower (a .rows) (a .g) (a .base) (omega arith)
 
 returns-3 : tie.Need-returns-3
-returns-3 c = row-middle (c .before .before .args .rows) (c .before .before .args .g) (c .before .before .args .base) (omega arith)
+returns-3 c = let a = c .before .before .args in row-middle (a .rows) (a .g) (a .base) (omega arith)
 
 returns-4 : tie.Need-returns-4
-returns-4 c = row-upper (c .before .before .args .rows) (c .before .before .args .g) (c .before .before .args .base) (omega arith)
+returns-4 c = let a = c .before .before .args in row-upper (a .rows) (a .g) (a .base) (omega arith)
 
 returns-5 : tie.Need-returns-5
-returns-5 c = row-above (c .before .before .args .rows) (c .before .before .args .g) (c .before .before .args .base) (omega arith)
+returns-5 c = let a = c .before .before .args in row-above (a .rows) (a .g) (a .base) (omega arith)
 
 pub row-at-spec : {M : Type 1} → statement M
 row-at-spec = tie.close (tie.spec (λ c. search needs) returns (λ c. search needs) (λ c. search needs) returns-2 returns-3 returns-4 returns-5)

@@ -7,10 +7,12 @@ use Rattle.coverage.proofs.line.whole_of.Statement.{statement}
 use Rattle.coverage.proofs.line.whole_of.Tie as tie
 
 returns : tie.Need-returns
-returns c = rw (c .before .if1 .taken, whole-level (c .before .before .args .l) (c .before .before .args .s) (c .if2 .taken))
+returns c = let a = c .before .before .args in rw (c .before .if1 .taken, whole-level (a .l) (a .s) (c .if2 .taken))
 
 returns-2 : tie.Need-returns-2
-returns-2 c = rw (c .before .before .if1 .taken, whole-slanted (c .before .before .before .args .l) (c .before .before .before .args .s) (omega arith), c .product .ensures .is)
+returns-2 c =
+    let a = c .before .before .before .args in
+    rw (c .before .before .if1 .taken, whole-slanted (a .l) (a .s) (omega arith), c .product .ensures .is)
 
 returns-3 : tie.Need-returns-3
 unfolding approxWhole

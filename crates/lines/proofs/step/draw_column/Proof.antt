@@ -1,7 +1,6 @@
 -- A spot keeps the page's length, so the bytes that the clip shows stay on the page; three spots, one after the other, are the column.
 use native.Mathlib.Omega.{arith}
 use mathlib.Core.Path.{sym, _∙_}
-use Prim.Native.Nat.{_-_}
 use borrow.Author.Needs.{needs}
 use Rattle.lines.proofs.step.draw_column.Statement.{statement}
 use Rattle.lines.proofs.step.draw_column.Tie as tie
