@@ -43,7 +43,16 @@ module _ (c : tie.After-first-step) where
   start = let laid = c .before .before .before in laid .before .before
 
   walkable : let laid = c .before .before .before in let a = laid .before .before .args in
-      WalkReady (record { view = a .view; line = a .line; frame = a .f; layout = laid .layout-of .result; level = a .level; d = c .before .before .whole-of .result; m = c .before .reciprocal .result })
+      WalkReady
+      (record {
+        view = a .view;
+        line = a .line;
+        frame = a .f;
+        layout = laid .layout-of .result;
+        level = a .level;
+        d = c .before .before .whole-of .result;
+        m = c .before .reciprocal .result;
+      })
       (c .first-step .result) (a .end) (length (a .page .now))
   walkable =
       let pre = start .pre in
