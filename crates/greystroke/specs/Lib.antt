@@ -1,4 +1,5 @@
 -- The answers of the C interface.
+pub mod Taken
 pub mod Answers
 pub mod Lists
 pub mod Whole

@@ -4,7 +4,7 @@ use Rattle.greystroke.proofs.list.check_answer.Statement.{statement}
 use Rattle.greystroke.proofs.list.check_answer.Tie as tie
 
 returns : tie.Need-returns
-returns c = rw (c .before .before .before .before .checked .given .1)
+returns c = rw (c .before .before .before .checked .given .1)
 
 returns-2 : tie.Need-returns-2
 returns-2 c = rw (c .before .checked2 .given .1)
@@ -14,6 +14,5 @@ check-answer-spec =
     tie.close
     (tie.spec
     (λ c. search needs) (λ c. search needs) (λ c. search needs) (λ c. search needs) (λ c. search needs)
-    (λ c. search needs)
     returns
     returns-2)

@@ -6,7 +6,7 @@ use Rattle.greystroke.proofs.list.record_answer.Tie as tie
 
 returns : tie.Need-returns
 unfolding kindSize kindOf fieldsOf
-returns c = rw (c .before .enum-told .given .1, c .size-of .ensures)
+returns c = rw (c .before .enum-told .given .1) (c .numbered .ensures)
 
 pub record-answer-spec : {M : Type 1} → statement M
 record-answer-spec =
