@@ -150,8 +150,9 @@ struct greystroke_list_answer {
 
 /* Draws a list on a page (R7.5). The whole list is checked before a byte of the page is written.
  * Refused, in this order: 12, 5 (under 10 bytes), 1, 2, 3, 21, then record by record 4, 5 and
- * those of 7 to 11 that the kind has, last 6 (R8.2). The place is 0 for the header, 12 and 21; else the
- * record's first byte; the list's length where the end is missing; the first surplus byte for 6. */
+ * those of 7 to 11 that the kind has, last 6 (R8.2). The place is 0 for the header, 12 and 21;
+ * else the record's first byte; the list's length where the end is missing; the first surplus byte
+ * for 6. */
 struct greystroke_list_answer greystroke_draw_list(
     uint8_t *page, size_t page_length, const uint8_t *list, size_t list_length);
 

@@ -3,6 +3,7 @@ use mathlib.Core.Path.{_∙_, ap}
 use mir.Syntax.{w16}
 use mir.Facts.{toZ-ofZ}
 use Rattle.shapes.proofs.Limits.{kept}
+use Rattle.greystroke.specs.Taken.{coordinateOf}
 use Rattle.greystroke.specs.Answers.{answered, coverageAsked}
 use borrow.Author.Needs.{needs}
 use Rattle.greystroke.proofs.query.query.Statement.{statement}
@@ -14,8 +15,8 @@ returns c =
     let two = c .before .before in
     let one = two .before in
     let fits = one .before .fits in
-    let x = kept w16 _ (one .coordinate .ok) ∙ (rw (toZ-ofZ (fits .x)) at (one .coordinate .ensures)) in
-    let y = kept w16 _ (two .coordinate2 .ok) ∙ (rw (toZ-ofZ (fits .y)) at (two .coordinate2 .ensures)) in
+    let x = kept w16 _ (one .coordinate .ok) ∙ one .coordinate .ensures ∙ ap coordinateOf (toZ-ofZ (fits .x)) in
+    let y = kept w16 _ (two .coordinate2 .ok) ∙ two .coordinate2 .ensures ∙ ap coordinateOf (toZ-ofZ (fits .y)) in
     c .coverage-answer .ensures ∙ ap answered (rw (x, y) at (c .before .coverage .ensures))
 
 pub query-spec : {M : Type 1} → statement M

@@ -6,11 +6,11 @@ use Rattle.greystroke.proofs.whole.list_answer.Tie as tie
 
 returns : tie.Need-returns
 unfolding listAnswered
-returns c = cc
+returns c = rw (c .before .answer .given .1)
 
 returns-2 : tie.Need-returns-2
 unfolding listAnswered
-returns-2 c = cc
+returns-2 c = rw (c .before .answer2 .given .1)
 
 pub list-answer-spec : {M : Type 1} → statement M
 list-answer-spec =
