@@ -1,8 +1,4 @@
 -- A number below or above what 16 bits hold is the stand-in; any other is the number itself.
-use mathlib.Core.Path.{_≡_, sym, _∙_}
-use mathlib.Core.Bool.{true, false}
-use lib.IntN.{pos, negsuc}
-use lib.Signed.{ltZ}
 use mir.Facts.{toZ-ofZ}
 use Rattle.greystroke.specs.Taken.{coordinateOf}
 use Rattle.greystroke.proofs.Held.{held, held-same}

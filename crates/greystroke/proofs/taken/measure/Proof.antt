@@ -1,6 +1,5 @@
 -- A negative number is 0; any other is taken as a side is.
 use mathlib.Core.Path.{_∙_}
-use lib.IntN.{natAbs}
 use mir.Syntax.{w32}
 use mir.Facts.{toZ-ofZ, fits-natAbs}
 use borrow.Author.Needs.{needs}

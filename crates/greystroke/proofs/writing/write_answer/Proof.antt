@@ -1,6 +1,4 @@
 -- After a refusal W and H are the given ones, else the writer's.
-use mathlib.Core.Path.{sym}
-use native.Mathlib.Omega.{arith}
 use borrow.Author.Needs.{needs}
 use borrow.Author.Tests.{lt-ltb, le-ltb}
 use Rattle.greystroke.specs.Lists.{writeAnswer}
