@@ -11,16 +11,16 @@ static uint8_t page[WIDTH * HEIGHT];
 
 /* Hands back how many bytes were written, or 0 after a refusal. */
 static size_t write_list(void) {
+    struct greystroke_shape disc = greystroke_disc(WIDTH / 2, HEIGHT / 2, RADIUS);
     struct greystroke_write_answer at =
         greystroke_write_header(list, sizeof list, 0, 0, 0, WIDTH, HEIGHT, BACKGROUND);
     if (at.refusal == 0)
-        at = greystroke_write_level(list, sizeof list, at.place, at.w, at.h, LEVEL);
+        at = greystroke_write_level(list, sizeof list, at.next, at.w, at.h, LEVEL);
     if (at.refusal == 0)
-        at = greystroke_write_disc(
-            list, sizeof list, at.place, at.w, at.h, WIDTH / 2, HEIGHT / 2, RADIUS);
+        at = greystroke_write_shape(list, sizeof list, at.next, at.w, at.h, disc);
     if (at.refusal == 0)
-        at = greystroke_write_end(list, sizeof list, at.place, at.w, at.h);
-    return at.refusal == 0 ? at.place : 0;
+        at = greystroke_write_end(list, sizeof list, at.next, at.w, at.h);
+    return at.refusal == 0 ? at.next : 0;
 }
 
 static uint64_t light(size_t left, size_t top, size_t right, size_t bottom) {
@@ -35,7 +35,7 @@ int main(void) {
     size_t length = write_list();
     struct greystroke_list_answer drawn = greystroke_draw_list(page, sizeof page, list, length);
     if (drawn.refusal != 0) {
-        printf("refused %" PRIu64 " at %zu\n", drawn.refusal, drawn.place);
+        printf("refused %" PRIu32 " at %zu\n", drawn.refusal, drawn.place);
         return 1;
     }
     printf("touched %" PRIu64 "\n", drawn.touched);

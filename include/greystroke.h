@@ -1,26 +1,27 @@
-/* The grey stroke core: lines, discs and rings on a grey page.
+/* The grey stroke core: lines, discs and rings on a grey page, in C11 and C++.
  *
- * Every call is proved in Rattle to meet the rules; this header is not checked against it.
+ * Every call is proved in Rattle to keep the rules; this header is not checked against it. R1.1
+ * and so on are clauses of docs/RULES.md.
  *
- * A page is W by H bytes, pixel (x, y) at byte y * W + x; a lent page may be longer, and the bytes
- * past W * H are never written. A page or a list is lent as its first byte and its length; nothing
- * else may write it during the call, and a page and a list may not overlap. No call keeps what it
- * was lent.
+ * Memory. A page or a list is lent as its first byte and its length; a length of 0 may come with
+ * any pointer, NULL too. While a call runs, nothing else may write what it was lent, nor read what
+ * it was lent to write, and a page and a list may not overlap. No call keeps what it was lent, and
+ * none has a state of its own: calls may run side by side on different memory.
  *
- * `refusal` is 0 for none; else its number, and the page or the list holds what it held. After a
- * refusal every other field is 0, but for the place of the refusal and for what a writer holds:
- *    1  list without the letters INK          8  clip out of order or off the page
- *    2  version other than 1                  9  line whose ends coincide
- *    3  W or H outside 1 to 1,024            10  radius 0 or above 255
- *    4  unknown kind of record               11  ring width 0 or above the radius
- *    5  list or record cut short             12  list longer than 65,536 bytes
- *    6  bytes behind the end record          21  page shorter than W * H bytes
- *    7  coordinate outside -4,096 to 4,095   22  no room in the list, or a place under 10
- */
+ * A page of W by H has pixel (x, y) at byte y * W + x (R1.2). It may be longer: bytes past W * H
+ * are never written.
+ *
+ * Numbers. Every number may have any value that its type holds: what is out of its range is
+ * refused, and nothing is narrowed in silence.
+ *
+ * Answers. Each begins with `refusal`, 0 for none, and `place`, the place of the refusal (R8.3):
+ * the list's place for greystroke_draw_list and greystroke_check_list, 0 for every other call, and
+ * 0 where nothing is refused. After a refusal all that was lent is as it was (R8.1), and the
+ * further fields are 0, but for what a writer holds. Where several refusals apply, the first in
+ * the order that is given for the call is told. */
 #ifndef GREYSTROKE_H
 #define GREYSTROKE_H
 
-#include <stdbool.h>
 #include <stddef.h>
 #include <stdint.h>
 
@@ -28,126 +29,204 @@
 extern "C" {
 #endif
 
-/* ---- a whole list ---- */
+/* The version of this interface: it grows where a program must be changed to be linked again. */
+#define GREYSTROKE_VERSION 1
 
-/* W, H and the touched count: the sum, over the shapes, of the pixels that each touches. Or the
- * refusal and its place: 0 for the header, 12 and 21; the record's first byte; the list's length
- * where the end is missing; the first surplus byte for 6. */
-struct greystroke_list_answer {
-    uint64_t refusal;
-    size_t place;
-    uint64_t w;
-    uint64_t h;
-    uint64_t touched;
+/* ---- refusals (R8.1) ---- */
+
+enum greystroke_refusal {
+    GREYSTROKE_WRONG_MARK = 1,      /* a list without the letters INK */
+    GREYSTROKE_WRONG_VERSION = 2,   /* a list of a version other than 1 */
+    GREYSTROKE_PAGE_SIZE = 3,       /* W or H outside 1 to 1,024 */
+    GREYSTROKE_UNKNOWN_KIND = 4,    /* an unknown kind of record, or a kind that is no shape */
+    GREYSTROKE_CUT_SHORT = 5,       /* a header or a record cut short, or no end record */
+    GREYSTROKE_SURPLUS_BYTES = 6,   /* bytes behind the end record */
+    GREYSTROKE_COORDINATE = 7,      /* a coordinate outside -4,096 to 4,095 */
+    GREYSTROKE_CLIP = 8,            /* a clip out of order or off the page */
+    GREYSTROKE_EQUAL_ENDS = 9,      /* a line whose ends coincide */
+    GREYSTROKE_RADIUS = 10,         /* a radius outside 1 to 255 */
+    GREYSTROKE_RING_WIDTH = 11,     /* a ring's width outside 1 to the radius */
+    GREYSTROKE_LIST_TOO_LONG = 12,  /* a list of more than 65,536 bytes */
+    GREYSTROKE_PAGE_TOO_SHORT = 21, /* a page shorter than W * H bytes */
+    GREYSTROKE_NO_ROOM = 22         /* too few bytes left in a list being written, or a place of a
+                                       record under 10 or past the list */
 };
 
-/* Draws a list on a page. The whole list is checked before the page is filled with the background
- * and drawn: 12, 5, 1, 2, 3, 21, then record by record 4, 5 and 7 to 11, last 6. */
-struct greystroke_list_answer greystroke_draw_list(
-    uint8_t *page, size_t page_length, const uint8_t *list, size_t list_length);
+/* ---- shapes and clips ---- */
 
-/* W, H and the background of a list that greystroke_draw_list would draw on a page of so many
- * bytes; or the refusal and its place. */
-struct greystroke_check_answer {
-    uint64_t refusal;
-    size_t place;
-    uint64_t w;
-    uint64_t h;
-    uint64_t background;
+/* The kind byte of a record (R7.3). */
+enum greystroke_kind {
+    GREYSTROKE_KIND_END = 0,
+    GREYSTROKE_KIND_CLIP = 1,
+    GREYSTROKE_KIND_LEVEL = 2,
+    GREYSTROKE_KIND_EXACT_LINE = 3,
+    GREYSTROKE_KIND_APPROXIMATE_LINE = 4,
+    GREYSTROKE_KIND_DISC = 5,
+    GREYSTROKE_KIND_RING = 6
 };
 
-struct greystroke_check_answer greystroke_check_list(
-    const uint8_t *list, size_t list_length, size_t page_length);
+/* A shape: its kind, and its numbers in the order of the record's fields. Numbers past those that
+ * a kind has are ignored. */
+struct greystroke_shape {
+    uint32_t kind;
+    int32_t numbers[6];
+};
 
-/* ---- one shape inside a clip ----
- * The clip keeps the pixels with left <= x < right and top <= y < bottom; an empty one draws
- * nothing. Refusals: 3, 21, 8, 7, 9, 10, 11. A pixel is touched where the exact coverage is above
- * 0, though its byte may stay as it was. */
+/* A line one pixel thick from corner (x0, y0) to corner (x1, y1), by exact areas (R3). */
+static inline struct greystroke_shape greystroke_exact_line(
+    int32_t x0, int32_t y0, int32_t x1, int32_t y1) {
+    struct greystroke_shape shape = {GREYSTROKE_KIND_EXACT_LINE, {x0, y0, x1, y1, 0, 0}};
+    return shape;
+}
 
+/* The same by the cheaper rule (R4). */
+static inline struct greystroke_shape greystroke_approximate_line(
+    int32_t x0, int32_t y0, int32_t x1, int32_t y1) {
+    struct greystroke_shape shape = {GREYSTROKE_KIND_APPROXIMATE_LINE, {x0, y0, x1, y1, 0, 0}};
+    return shape;
+}
+
+/* A disc about corner (x, y) (R5). */
+static inline struct greystroke_shape greystroke_disc(int32_t x, int32_t y, int32_t radius) {
+    struct greystroke_shape shape = {GREYSTROKE_KIND_DISC, {x, y, radius, 0, 0, 0}};
+    return shape;
+}
+
+/* A disc less the disc whose radius is smaller by the width (R5.3). */
+static inline struct greystroke_shape greystroke_ring(
+    int32_t x, int32_t y, int32_t radius, int32_t width) {
+    struct greystroke_shape shape = {GREYSTROKE_KIND_RING, {x, y, radius, width, 0, 0}};
+    return shape;
+}
+
+/* Keeps the pixels with x0 <= x < x1 and y0 <= y < y1; an empty clip is lawful (R1.4). */
+struct greystroke_clip {
+    uint32_t x0;
+    uint32_t y0;
+    uint32_t x1;
+    uint32_t y1;
+};
+
+/* ---- one shape ---- */
+
+/* How many pixels the shape touched (R6.2): those inside the clip where its exact coverage is
+ * above 0, though the byte may have stayed as it was. */
 struct greystroke_draw_answer {
-    uint64_t refusal;
+    uint32_t refusal;
+    size_t place;
     uint64_t touched;
 };
 
-struct greystroke_draw_answer greystroke_draw_line(
-    uint8_t *page, size_t page_length, uint16_t w, uint16_t h,
-    uint16_t left, uint16_t top, uint16_t right, uint16_t bottom, uint8_t level,
-    bool exact, int16_t x0, int16_t y0, int16_t x1, int16_t y1);
+/* Blends a shape at a level into the pixels of a page of w by h that the clip keeps (R6.1).
+ * Refused, in this order: 4 where the kind is no shape, then 3, 21, 8, 7, 9, 10, 11 (R8.4). */
+struct greystroke_draw_answer greystroke_draw_shape(
+    uint8_t *page, size_t page_length, uint32_t w, uint32_t h, struct greystroke_clip clip,
+    uint8_t level, struct greystroke_shape shape);
 
-struct greystroke_draw_answer greystroke_draw_disc(
-    uint8_t *page, size_t page_length, uint16_t w, uint16_t h,
-    uint16_t left, uint16_t top, uint16_t right, uint16_t bottom, uint8_t level,
-    int16_t cx, int16_t cy, uint16_t radius);
-
-struct greystroke_draw_answer greystroke_draw_ring(
-    uint8_t *page, size_t page_length, uint16_t w, uint16_t h,
-    uint16_t left, uint16_t top, uint16_t right, uint16_t bottom, uint8_t level,
-    int16_t cx, int16_t cy, uint16_t radius, uint16_t width);
-
-/* ---- the coverage of one pixel: n over d, not reduced; 0 over d off the shape ----
- * Refusals: 7 (of the shape, then of the pixel), 9, 10, 11. */
-
+/* n over d, not reduced; off the shape 0 over d (R6.3). */
 struct greystroke_coverage_answer {
-    uint64_t refusal;
+    uint32_t refusal;
+    size_t place;
     uint64_t n;
     uint64_t d;
 };
 
-struct greystroke_coverage_answer greystroke_line_coverage(
-    bool exact, int16_t x0, int16_t y0, int16_t x1, int16_t y1, int16_t x, int16_t y);
-struct greystroke_coverage_answer greystroke_disc_coverage(
-    int16_t cx, int16_t cy, uint16_t radius, int16_t x, int16_t y);
-struct greystroke_coverage_answer greystroke_ring_coverage(
-    int16_t cx, int16_t cy, uint16_t radius, uint16_t width, int16_t x, int16_t y);
+/* The share of pixel (x, y) that a shape covers.
+ * Refused, in this order: 4 where the kind is no shape, then 7 of the shape, 7 of the pixel, 9, 10,
+ * 11 (R8.4). */
+struct greystroke_coverage_answer greystroke_coverage(
+    struct greystroke_shape shape, int32_t x, int32_t y);
 
-/* ---- one record read, on a page of w by h ----
- * `size` bytes of the list are the record; `kind` is its kind byte, and a to d are its numbers in
- * their order, 0 where a kind has fewer. Refusals: 3, 5 (no byte), 4, 5, 7 to 11. */
+/* ---- a whole list (R7) ---- */
 
-struct greystroke_read_answer {
-    uint64_t refusal;
-    uint64_t size;
-    uint64_t kind;
-    int32_t a;
-    int32_t b;
-    int32_t c;
-    int32_t d;
-};
-
-struct greystroke_read_answer greystroke_read_record(
-    const uint8_t *list, size_t list_length, uint16_t w, uint16_t h);
-
-/* ---- a list being written ----
- * The caller holds a place, W and H, and holds what is answered from then on; a refusal answers
- * what it was given. A header goes to byte 0, a record to the place. Refusals: 3, then those of 7
- * to 11 that the record has, then 22. Of a list only the first 65,536 bytes serve. */
-
-struct greystroke_write_answer {
-    uint64_t refusal;
+/* W, H and the touched count: the sum, over the shapes, of the pixels that each touches (R6.4). */
+struct greystroke_list_answer {
+    uint32_t refusal;
     size_t place;
-    uint64_t w;
-    uint64_t h;
+    uint32_t w;
+    uint32_t h;
+    uint64_t touched;
 };
 
+/* Draws a list on a page (R7.5). The whole list is checked before a byte of the page is written.
+ * Refused, in this order: 12, 5 (under 10 bytes), 1, 2, 3, 21, then record by record 4, 5 and
+ * those of 7 to 11 that the kind has, last 6 (R8.2). The place is 0 for the header, 12 and 21;
+ * else the record's first byte; the list's length where the end is missing; the first surplus byte
+ * for 6. */
+struct greystroke_list_answer greystroke_draw_list(
+    uint8_t *page, size_t page_length, const uint8_t *list, size_t list_length);
+
+/* W, H and the background of the list. */
+struct greystroke_check_answer {
+    uint32_t refusal;
+    size_t place;
+    uint32_t w;
+    uint32_t h;
+    uint8_t background;
+};
+
+/* Checks a list as greystroke_draw_list does for a page of so many bytes: the same refusals, in
+ * the same order, at the same places. */
+struct greystroke_check_answer greystroke_check_list(
+    const uint8_t *list, size_t list_length, size_t page_length);
+
+/* ---- one record read ---- */
+
+/* The record has `size` bytes. `kind` is its kind, and `numbers` are its fields in their order,
+ * then zeros: those of a shape are as in greystroke_shape. */
+struct greystroke_read_answer {
+    uint32_t refusal;
+    size_t place;
+    size_t size;
+    uint32_t kind;
+    int32_t numbers[6];
+};
+
+/* Reads the record at the front of some bytes, for a page of w by h (R7.6).
+ * Refused, in this order: 3, 5 (no byte), 4, 5, then those of 7 to 11 that the kind has (R8.5). */
+struct greystroke_read_answer greystroke_read_record(
+    const uint8_t *list, size_t list_length, uint32_t w, uint32_t h);
+
+/* ---- a list being written (R7.7) ----
+ * A writer is a place, W and H, which the caller holds: 0, 0, 0 before the header. Each call is
+ * handed them and answers those to hold from then on; after a refusal they are the ones that it
+ * was handed. Of a list only the first 65,536 bytes serve, and no byte changes but those of what
+ * is written. */
+
+/* `next` is where the next record goes; `place` is that of the refusal, always 0. */
+struct greystroke_write_answer {
+    uint32_t refusal;
+    size_t place;
+    size_t next;
+    uint32_t w;
+    uint32_t h;
+};
+
+/* Writes a header for a page of width by height to byte 0; place, w and h are what the writer
+ * holds. Refused, in this order: 3 of width and height, 22 (R8.6). */
 struct greystroke_write_answer greystroke_write_header(
-    uint8_t *list, size_t list_length, size_t place, uint16_t w, uint16_t h,
-    uint16_t width, uint16_t height, uint8_t background);
+    uint8_t *list, size_t list_length, size_t place, uint32_t w, uint32_t h,
+    uint32_t width, uint32_t height, uint8_t background);
+
+/* Writes an end record, which the writer does not remember.
+ * Refused, in this order: 3 of w and h, 22 (R8.6). */
 struct greystroke_write_answer greystroke_write_end(
-    uint8_t *list, size_t list_length, size_t place, uint16_t w, uint16_t h);
+    uint8_t *list, size_t list_length, size_t place, uint32_t w, uint32_t h);
+
+/* Writes a clip. Refused, in this order: 3 of w and h, 8, 22 (R8.6). */
 struct greystroke_write_answer greystroke_write_clip(
-    uint8_t *list, size_t list_length, size_t place, uint16_t w, uint16_t h,
-    uint16_t left, uint16_t top, uint16_t right, uint16_t bottom);
+    uint8_t *list, size_t list_length, size_t place, uint32_t w, uint32_t h,
+    struct greystroke_clip clip);
+
+/* Writes a level. Refused, in this order: 3 of w and h, 22 (R8.6). */
 struct greystroke_write_answer greystroke_write_level(
-    uint8_t *list, size_t list_length, size_t place, uint16_t w, uint16_t h, uint8_t level);
-struct greystroke_write_answer greystroke_write_line(
-    uint8_t *list, size_t list_length, size_t place, uint16_t w, uint16_t h,
-    bool exact, int16_t x0, int16_t y0, int16_t x1, int16_t y1);
-struct greystroke_write_answer greystroke_write_disc(
-    uint8_t *list, size_t list_length, size_t place, uint16_t w, uint16_t h,
-    int16_t cx, int16_t cy, uint16_t radius);
-struct greystroke_write_answer greystroke_write_ring(
-    uint8_t *list, size_t list_length, size_t place, uint16_t w, uint16_t h,
-    int16_t cx, int16_t cy, uint16_t radius, uint16_t width);
+    uint8_t *list, size_t list_length, size_t place, uint32_t w, uint32_t h, uint8_t level);
+
+/* Writes a shape. Refused, in this order: 4 where the kind is no shape, then 3 of w and h, 7, 9,
+ * 10, 11, 22 (R8.6). */
+struct greystroke_write_answer greystroke_write_shape(
+    uint8_t *list, size_t list_length, size_t place, uint32_t w, uint32_t h,
+    struct greystroke_shape shape);
 
 #ifdef __cplusplus
 }

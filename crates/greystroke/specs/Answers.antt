@@ -1,34 +1,46 @@
--- The answers of the library in the form that C takes: a refusal is its number, and 0 stands for none.
-use mathlib.Core.Bool.{Bool}
+-- The answers of queries and draws in the form that C takes: a refusal is its number, and 0 stands for none.
+use mathlib.Core.List.{List}
 use Prim.Native.Nat.{ℕ}
 use lib.IntN.{ℤ}
+use Rattle.coverage.specs.Coverage.{queried}
 use Rattle.coverage.specs.declared.Answer.{Answer}
 use Rattle.coverage.specs.declared.Answer.the-variants.{Covered, Refused}
-use Rattle.shapes.specs.declared.Clip.{Clip}
-use Rattle.shapes.specs.declared.Shape.{Shape}
-use Rattle.shapes.specs.declared.Shape.the-variants.{Line, Disc, Ring}
+use Rattle.draw.specs.Draw.{shapeOutcome, shapePage}
 use Rattle.draw.specs.declared.Outcome.{Outcome}
 use Rattle.draw.specs.declared.Outcome.the-variants.{Touched, Refused as DrawRefused}
+use Rattle.greystroke.specs.Taken.{coordinateOf, sideOf, clipOf}
+use Rattle.greystroke.specs.declared.taken.GivenClip.{GivenClip}
+use Rattle.greystroke.specs.declared.taken.Taken.{Taken}
+use Rattle.greystroke.specs.declared.taken.Taken.the-variants.{Known, Unknown}
 use Rattle.greystroke.specs.declared.shape.DrawAnswer.{DrawAnswer}
 use Rattle.greystroke.specs.declared.query.CoverageAnswer.{CoverageAnswer}
 
+-- R8.3: the place of the refusal of every call but the check and the draw of a list
+abbrev pub callPlace : ℕ
+callPlace = 0
+
+-- the refusal of a kind that is no shape's, tried before all others
+abbrev pub unknownKind : ℕ
+unknownKind = 4
+
 abbrev pub answered : Answer → CoverageAnswer
-answered (Covered ratio) = record { refusal = 0; n = ratio .n; d = ratio .d }
-answered (Refused refusal) = record { refusal = refusal; n = 0; d = 0 }
+answered (Covered ratio) = record { refusal = 0; place = callPlace; n = ratio .n; d = ratio .d }
+answered (Refused refusal) = record { refusal = refusal; place = callPlace; n = 0; d = 0 }
 
 abbrev pub drawn : Outcome → DrawAnswer
-drawn (Touched count) = record { refusal = 0; touched = count }
-drawn (DrawRefused refusal) = record { refusal = refusal; touched = 0 }
+drawn (Touched count) = record { refusal = 0; place = callPlace; touched = count }
+drawn (DrawRefused refusal) = record { refusal = refusal; place = callPlace; touched = 0 }
 
--- a clip and a shape by the numbers that C hands over
-abbrev pub clipOf : ℕ → ℕ → ℕ → ℕ → Clip
-clipOf x0 y0 x1 y1 = record { x0 = x0; y0 = y0; x1 = x1; y1 = y1 }
+-- a query by the numbers of C
+unfoldable pub coverageAsked : Taken → ℤ → ℤ → Answer
+coverageAsked (Known s) x y = queried s (coordinateOf x) (coordinateOf y)
+coverageAsked Unknown x y = Refused unknownKind
 
-abbrev pub lineOf : Bool → ℤ → ℤ → ℤ → ℤ → Shape
-lineOf exact x0 y0 x1 y1 = Line (record { exact = exact; x0 = x0; y0 = y0; x1 = x1; y1 = y1 })
+-- a shape drawn by the numbers of C on a page of so many bytes, and the page after it
+unfoldable pub shapeDrawn : ℕ → ℕ → ℕ → GivenClip → Taken → Outcome
+shapeDrawn w h size c (Known s) = shapeOutcome (sideOf w) (sideOf h) size (clipOf c) s
+shapeDrawn w h size c Unknown = DrawRefused unknownKind
 
-abbrev pub discOf : ℤ → ℤ → ℕ → Shape
-discOf x y radius = Disc (record { x = x; y = y; radius = radius })
-
-abbrev pub ringOf : ℤ → ℤ → ℕ → ℕ → Shape
-ringOf x y radius width = Ring (record { x = x; y = y; radius = radius; width = width })
+unfoldable pub pageDrawn : ℕ → ℕ → GivenClip → ℕ → Taken → List ℕ → List ℕ
+pageDrawn w h c v (Known s) l = shapePage (sideOf w) (sideOf h) (clipOf c) v s l
+pageDrawn w h c v Unknown l = l

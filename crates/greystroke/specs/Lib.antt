@@ -1,4 +1,5 @@
--- The answers of the C interface.
+-- How the C interface takes numbers, and its answers.
+pub mod Taken
 pub mod Answers
 pub mod Lists
 pub mod Whole

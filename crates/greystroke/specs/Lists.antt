@@ -1,25 +1,45 @@
 -- The answers about drawing lists in the form that C takes.
+use mathlib.Core.Bool.{cond}
+use mathlib.Core.List.{List, [], _∷_}
 use Prim.Native.Nat.{ℕ}
+use lib.Dec.{ltb}
 use lib.IntN.{ℤ, pos}
 use lib.ListN.{length}
+use Rattle.shapes.specs.Limits.{sized}
+use Rattle.shapes.specs.declared.Basis.{Basis}
 use Rattle.shapes.specs.declared.Shape.the-variants.{Line as line, Disc as disc, Ring as ring}
 use Rattle.shapes.specs.declared.Setting.the-variants.{Clip as clip, Level as level}
 use Rattle.shapes.specs.declared.Record.{Record}
 use Rattle.shapes.specs.declared.Record.the-variants.{End as end, Setting as setting, Shape as shape}
 use Rattle.lists.specs.Format.{kindOf, recordBytes}
+use Rattle.lists.specs.Write.{headerWritten, recordWritten, recordList}
 use Rattle.lists.specs.declared.read.Reading.{Reading}
 use Rattle.lists.specs.declared.read.Reading.the-variants.{Found, Refused}
 use Rattle.lists.specs.declared.check.Checked.{Checked}
 use Rattle.lists.specs.declared.check.Checked.the-variants.{Accepted, Refused as CheckRefused}
 use Rattle.lists.specs.declared.format.Header.{Header}
 use Rattle.lists.specs.declared.write.Written.{Written}
+use Rattle.greystroke.specs.Taken.{sideOf}
+use Rattle.greystroke.specs.Answers.{callPlace, unknownKind}
+use Rattle.greystroke.specs.declared.taken.Taken.{Taken}
+use Rattle.greystroke.specs.declared.taken.Taken.the-variants.{Known, Unknown}
 use Rattle.greystroke.specs.declared.list.ReadAnswer.{ReadAnswer}
 use Rattle.greystroke.specs.declared.list.CheckAnswer.{CheckAnswer}
 use Rattle.greystroke.specs.declared.writing.WriteAnswer.{WriteAnswer}
 
--- a record with its four numbers
+-- W and H by the numbers of C
+abbrev pub basisTaken : ℕ → ℕ → Basis
+basisTaken w h = sized (sideOf w) (sideOf h)
+
+-- ---- reading
+
+-- a record of so many bytes, its kind and its four numbers
+abbrev pub numberedBy : ℕ → ℕ → ℤ → ℤ → ℤ → ℤ → ReadAnswer
+numberedBy size kind a b c d =
+    record { refusal = 0; place = callPlace; size = size; kind = kind; numbers = a ∷ b ∷ c ∷ d ∷ pos 0 ∷ pos 0 ∷ [] }
+
 abbrev pub numbered : Record → ℤ → ℤ → ℤ → ℤ → ReadAnswer
-numbered r a b c d = record { refusal = 0; size = length (recordBytes r); kind = kindOf r; a = a; b = b; c = c; d = d }
+numbered r = numberedBy (length (recordBytes r)) (kindOf r)
 
 -- the numbers of a record in the order of its bytes, then zeros
 abbrev pub recordAnswer : Record → ReadAnswer
@@ -32,15 +52,40 @@ recordAnswer (shape (ring g)) = numbered (shape (ring g)) (g .x) (g .y) (pos (g 
 
 abbrev pub readAnswer : Reading → ReadAnswer
 readAnswer (Found r) = recordAnswer r
-readAnswer (Refused refusal) = record { refusal = refusal; size = 0; kind = 0; a = pos 0; b = pos 0; c = pos 0; d = pos 0 }
+readAnswer (Refused refusal) =
+    record { refusal = refusal; place = callPlace; size = 0; kind = 0; numbers = pos 0 ∷ pos 0 ∷ pos 0 ∷ pos 0 ∷ pos 0 ∷ pos 0 ∷ [] }
+
+-- ---- checking
 
 abbrev pub checkAnswer : Checked → CheckAnswer
 checkAnswer (Accepted d) = record { refusal = 0; place = 0; w = d .w; h = d .h; background = d .background }
 checkAnswer (CheckRefused refusal place) = record { refusal = refusal; place = place; w = 0; h = 0; background = 0 }
 
-abbrev pub writeAnswer : Written → WriteAnswer
-writeAnswer a = record { refusal = a .refusal; place = a .place; w = a .w; h = a .h }
+-- ---- writing
+
+-- next is where the next record goes. After a refusal it, W and H are those that were given
+unfoldable pub writeAnswer : ℕ → ℕ → Written → WriteAnswer
+writeAnswer w h a =
+    record { refusal = a .refusal; place = callPlace; next = a .place; w = cond (ltb 0 (a .refusal)) w (a .w); h = cond (ltb 0 (a .refusal)) h (a .h) }
 
 -- a header by its three numbers
 abbrev pub headerOf : ℕ → ℕ → ℕ → Header
-headerOf w h background = record { w = w; h = h; background = background }
+headerOf w h background = record { w = sideOf w; h = sideOf h; background = background }
+
+-- a header, a record and a shape by the numbers of C, into the list l, and the list after it
+unfoldable pub headerPut : List ℕ → ℕ → ℕ → ℕ → Header → WriteAnswer
+headerPut l place w h d = writeAnswer w h (headerWritten l place (sideOf w) (sideOf h) d)
+
+unfoldable pub recordPut : List ℕ → ℕ → ℕ → ℕ → Record → WriteAnswer
+recordPut l place w h r = writeAnswer w h (recordWritten l place (sideOf w) (sideOf h) r)
+
+unfoldable pub afterRecord : List ℕ → ℕ → ℕ → ℕ → Record → List ℕ
+afterRecord l place w h r = recordList l place (sideOf w) (sideOf h) r
+
+unfoldable pub shapePut : List ℕ → ℕ → ℕ → ℕ → Taken → WriteAnswer
+shapePut l place w h (Known s) = recordPut l place w h (shape s)
+shapePut l place w h Unknown = record { refusal = unknownKind; place = callPlace; next = place; w = w; h = h }
+
+unfoldable pub afterShape : List ℕ → ℕ → ℕ → ℕ → Taken → List ℕ
+afterShape l place w h (Known s) = afterRecord l place w h (shape s)
+afterShape l place w h Unknown = l

@@ -8,32 +8,29 @@ use shapes::Setting;
 use shapes::Shape;
 ghost use mathlib.Core.Path.{_≡_};
 ghost use lib.IntN.{pos};
-ghost use Rattle.shapes.specs.Limits.{sized};
 ghost use Rattle.lists.specs.Format.{kindSize};
 ghost use Rattle.lists.specs.Read.{readingOf};
 ghost use Rattle.lists.specs.List.{checkedOf};
-ghost use Rattle.greystroke.specs.Lists.{recordAnswer, readAnswer, checkAnswer};
+ghost use Rattle.greystroke.specs.Lists.{numberedBy, recordAnswer, readAnswer, basisTaken, checkAnswer};
 
 // A record where refusal is 0: how many bytes it has, its kind byte and its numbers in their order. What a kind has not is 0.
 #[repr(C)]
 pub struct ReadAnswer {
-    pub refusal: u64,
-    pub size: u64,
-    pub kind: u64,
-    pub a: i32,
-    pub b: i32,
-    pub c: i32,
-    pub d: i32,
+    pub refusal: u32,
+    pub place: usize,
+    pub size: usize,
+    pub kind: u32,
+    pub numbers: [i32; 6],
 }
 
 // The header of a list where refusal is 0; else the place of the refusal.
 #[repr(C)]
 pub struct CheckAnswer {
-    pub refusal: u64,
+    pub refusal: u32,
     pub place: usize,
-    pub w: u64,
-    pub h: u64,
-    pub background: u64,
+    pub w: u32,
+    pub h: u32,
+    pub background: u8,
 }
 
 // A signed and an unsigned number in 32 bits.
@@ -49,70 +46,62 @@ fn wide_unsigned(n: u16) -> i32
     n as i32
 }
 
-// How many bytes a record of a kind has.
-fn size_of(kind: u8) -> u64
-    ensures { λ r. ⌜ r ≡ kindSize kind ⌝ }
+// A record of a kind by its numbers; no kind has more than four.
+fn numbered(kind: u8, a: i32, b: i32, c: i32, d: i32) -> ReadAnswer
+    ensures { λ r. ⌜ r ≡ numberedBy (kindSize kind) kind a b c d ⌝ }
 {
-    lists::format::kind_size(kind) as u64
+    ReadAnswer {
+        refusal: 0,
+        place: 0,
+        size: lists::format::kind_size(kind),
+        kind: kind as u32,
+        numbers: [a, b, c, d, 0, 0],
+    }
 }
 
 // Each kind of record in the form that C takes.
 fn clip_answer(clip: Clip) -> ReadAnswer
     ensures { λ r. ⌜ r ≡ recordAnswer (Record.Setting (Setting.Clip clip)) ⌝ }
 {
-    ReadAnswer {
-        refusal: 0,
-        size: size_of(1),
-        kind: 1,
-        a: wide_unsigned(clip.x0),
-        b: wide_unsigned(clip.y0),
-        c: wide_unsigned(clip.x1),
-        d: wide_unsigned(clip.y1),
-    }
+    numbered(
+        1,
+        wide_unsigned(clip.x0),
+        wide_unsigned(clip.y0),
+        wide_unsigned(clip.x1),
+        wide_unsigned(clip.y1),
+    )
 }
 
 fn level_answer(level: u8) -> ReadAnswer
     ensures { λ r. ⌜ r ≡ recordAnswer (Record.Setting (Setting.Level level)) ⌝ }
 {
-    ReadAnswer {
-        refusal: 0,
-        size: size_of(2),
-        kind: 2,
-        a: wide_unsigned(level as u16),
-        b: 0,
-        c: 0,
-        d: 0,
-    }
+    numbered(2, wide_unsigned(level as u16), 0, 0, 0)
 }
 
 fn line_answer(line: Line) -> ReadAnswer
     ensures { λ r. ⌜ r ≡ recordAnswer (Record.Shape (Shape.Line line)) ⌝ }
 {
     let kind = lists::format::line_kind(line.exact);
-    ReadAnswer {
-        refusal: 0,
-        size: size_of(kind),
-        kind: kind as u64,
-        a: wide(line.x0),
-        b: wide(line.y0),
-        c: wide(line.x1),
-        d: wide(line.y1),
-    }
+    numbered(
+        kind,
+        wide(line.x0),
+        wide(line.y0),
+        wide(line.x1),
+        wide(line.y1),
+    )
 }
 
 // A disc or a ring.
 fn circle_answer(kind: u8, x: i16, y: i16, radius: u16, width: u16) -> ReadAnswer
-    ensures { λ r. ⌜ r ≡ record { refusal = 0; size = kindSize kind; kind = kind; a = x; b = y; c = pos radius; d = pos width } ⌝ }
+    ensures { λ r. ⌜ r ≡ numberedBy (kindSize kind) kind x y (pos radius) (pos width) ⌝ }
 {
-    ReadAnswer {
-        refusal: 0,
-        size: size_of(kind),
-        kind: kind as u64,
-        a: wide(x),
-        b: wide(y),
-        c: wide_unsigned(radius),
-        d: wide_unsigned(width),
-    }
+    numbered(
+        kind,
+        wide(x),
+        wide(y),
+        wide_unsigned(radius),
+        wide_unsigned(width),
+    )
 }
 
 fn setting_answer(setting: Setting) -> ReadAnswer
@@ -138,15 +127,7 @@ fn record_answer(rec: Record) -> ReadAnswer
     ensures { λ r. ⌜ r ≡ recordAnswer rec ⌝ }
 {
     match rec {
-        Record::End => ReadAnswer {
-            refusal: 0,
-            size: size_of(0),
-            kind: 0,
-            a: 0,
-            b: 0,
-            c: 0,
-            d: 0,
-        },
+        Record::End => numbered(0, 0, 0, 0, 0),
         Record::Setting(setting) => setting_answer(setting),
         Record::Shape(shape) => shape_answer(shape),
     }
@@ -159,13 +140,11 @@ fn read_answer(reading: Reading) -> ReadAnswer
     match reading {
         Reading::Found(rec) => record_answer(rec),
         Reading::Refused(refusal) => ReadAnswer {
-            refusal: refusal as u64,
+            refusal: refusal as u32,
+            place: 0,
             size: 0,
             kind: 0,
-            a: 0,
-            b: 0,
-            c: 0,
-            d: 0,
+            numbers: [0, 0, 0, 0, 0, 0],
         },
     }
 }
@@ -178,12 +157,12 @@ fn check_answer(checked: Checked) -> CheckAnswer
         Checked::Accepted(header) => CheckAnswer {
             refusal: 0,
             place: 0,
-            w: header.w as u64,
-            h: header.h as u64,
-            background: header.background as u64,
+            w: header.w as u32,
+            h: header.h as u32,
+            background: header.background,
         },
         Checked::Refused { refusal, place } => CheckAnswer {
-            refusal: refusal as u64,
+            refusal: refusal as u32,
             place,
             w: 0,
             h: 0,
@@ -194,10 +173,14 @@ fn check_answer(checked: Checked) -> CheckAnswer
 
 // Reads the record at the front of some bytes.
 #[no_mangle]
-pub extern "C" fn greystroke_read_record(list: &[u8], w: u16, h: u16) -> ReadAnswer
-    ensures { λ r. ⌜ r ≡ readAnswer (readingOf (sized w h) (now (list .entry))) ⌝ }
+pub extern "C" fn greystroke_read_record(list: &[u8], w: u32, h: u32) -> ReadAnswer
+    ensures { λ r. ⌜ r ≡ readAnswer (readingOf (basisTaken w h) (now (list .entry))) ⌝ }
 {
-    read_answer(lists::read::read_record(list, shapes::Basis { w, h }))
+    let basis = shapes::Basis {
+        w: crate::taken::side(w),
+        h: crate::taken::side(h),
+    };
+    read_answer(lists::read::read_record(list, basis))
 }
 
 // Checks a whole list for a page of so many bytes.

@@ -1,16 +1,16 @@
 // Coverage queries.
-use shapes::Disc;
-use shapes::Line;
-use shapes::Ring;
+use crate::taken::GivenShape;
+use crate::taken::Taken;
 use shapes::Shape;
 ghost use mathlib.Core.Path.{_≡_};
-ghost use Rattle.greystroke.specs.Answers.{lineOf, discOf, ringOf, answered};
-ghost use Rattle.coverage.specs.Coverage.{queried};
+ghost use Rattle.greystroke.specs.Taken.{takenOf};
+ghost use Rattle.greystroke.specs.Answers.{answered, coverageAsked};
 
 // n over d where refusal is 0; else n and d are 0.
 #[repr(C)]
 pub struct CoverageAnswer {
-    pub refusal: u64,
+    pub refusal: u32,
+    pub place: usize,
     pub n: u64,
     pub d: u64,
 }
@@ -22,83 +22,36 @@ fn coverage_answer(answer: coverage::Answer) -> CoverageAnswer
     match answer {
         coverage::Answer::Covered(ratio) => CoverageAnswer {
             refusal: 0,
+            place: 0,
             n: ratio.n,
             d: ratio.d,
         },
         coverage::Answer::Refused(refusal) => CoverageAnswer {
-            refusal: refusal as u64,
+            refusal: refusal as u32,
+            place: 0,
             n: 0,
             d: 0,
         },
     }
 }
 
-// Every query asks the library so.
-fn query(shape: Shape, x: i16, y: i16) -> CoverageAnswer
-    ensures { λ r. ⌜ r ≡ answered (queried shape x y) ⌝ }
+fn query(shape: Shape, x: i32, y: i32) -> CoverageAnswer
+    ensures { λ r. ⌜ r ≡ answered (coverageAsked (Taken.Known shape) x y) ⌝ }
 {
-    coverage_answer(coverage::coverage(shape, x, y))
+    coverage_answer(coverage::coverage(
+        shape,
+        crate::taken::coordinate(x),
+        crate::taken::coordinate(y),
+    ))
 }
 
-// The coverage of pixel (x, y) by a line.
+// The coverage of pixel (x, y) by a shape.
 #[no_mangle]
-pub extern "C" fn greystroke_line_coverage(
-    exact: bool,
-    x0: i16,
-    y0: i16,
-    x1: i16,
-    y1: i16,
-    x: i16,
-    y: i16,
-) -> CoverageAnswer
-    ensures { λ r. ⌜ r ≡ answered (queried (lineOf exact x0 y0 x1 y1) x y) ⌝ }
+pub extern "C" fn greystroke_coverage(shape: GivenShape, x: i32, y: i32) -> CoverageAnswer
+    ensures { λ r. ⌜ r ≡ answered (coverageAsked (takenOf shape) x y) ⌝ }
 {
-    let line = Line {
-        exact,
-        x0,
-        y0,
-        x1,
-        y1,
-    };
-    query(Shape::Line(line), x, y)
-}
-
-// The coverage of pixel (x, y) by a disc.
-#[no_mangle]
-pub extern "C" fn greystroke_disc_coverage(
-    cx: i16,
-    cy: i16,
-    radius: u16,
-    x: i16,
-    y: i16,
-) -> CoverageAnswer
-    ensures { λ r. ⌜ r ≡ answered (queried (discOf cx cy radius) x y) ⌝ }
-{
-    let disc = Disc {
-        x: cx,
-        y: cy,
-        radius,
-    };
-    query(Shape::Disc(disc), x, y)
-}
-
-// The coverage of pixel (x, y) by a ring.
-#[no_mangle]
-pub extern "C" fn greystroke_ring_coverage(
-    cx: i16,
-    cy: i16,
-    radius: u16,
-    width: u16,
-    x: i16,
-    y: i16,
-) -> CoverageAnswer
-    ensures { λ r. ⌜ r ≡ answered (queried (ringOf cx cy radius width) x y) ⌝ }
-{
-    let ring = Ring {
-        x: cx,
-        y: cy,
-        radius,
-        width,
-    };
-    query(Shape::Ring(ring), x, y)
+    match crate::taken::taken_of(shape) {
+        Taken::Known(known) => query(known, x, y),
+        Taken::Unknown => coverage_answer(coverage::Answer::Refused(4)),
+    }
 }

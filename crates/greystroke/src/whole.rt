@@ -7,10 +7,10 @@ ghost use Rattle.greystroke.specs.Whole.{listAnswered};
 // W, H and how many pixels were touched where refusal is 0; else the place of the refusal.
 #[repr(C)]
 pub struct ListAnswer {
-    pub refusal: u64,
+    pub refusal: u32,
     pub place: usize,
-    pub w: u64,
-    pub h: u64,
+    pub w: u32,
+    pub h: u32,
     pub touched: u64,
 }
 
@@ -22,12 +22,12 @@ fn list_answer(answer: Answer) -> ListAnswer
         Answer::Drawn { w, h, touched } => ListAnswer {
             refusal: 0,
             place: 0,
-            w: w as u64,
-            h: h as u64,
+            w: w as u32,
+            h: h as u32,
             touched,
         },
         Answer::Refused { refusal, place } => ListAnswer {
-            refusal: refusal as u64,
+            refusal: refusal as u32,
             place,
             w: 0,
             h: 0,

@@ -80,7 +80,8 @@ fn with_place(refused: greystroke::ListRefusal) -> Refused {
     }
 }
 
-/// Calls other than those on a whole list refuse at place 0.
+/// Calls other than those on a whole list refuse at place 0; `greystroke` panics where the library
+/// tells another.
 fn without_place(refusal: greystroke::Refusal) -> Refused {
     Refused {
         number: refusal.number(),

@@ -1,137 +1,136 @@
 //! The functions of the static library. Nothing checks these declarations against its source.
+//!
+//! Each answer begins with the refusal, 0 for none, and its place. After a refusal the further
+//! fields are 0, but for those of [`WriteAnswer`].
 
-/// A fraction n over d when `refusal` is 0; else n and d are 0.
+use crate::{Clip, Disc, Line, Ring, Shape};
+
+/// A shape: its kind byte in a list, and its numbers in the order of the record's fields.
+#[repr(C)]
+#[derive(Clone, Copy)]
+pub struct GivenShape {
+    pub kind: u32,
+    pub numbers: [i32; 6],
+}
+
+#[repr(C)]
+#[derive(Clone, Copy)]
+pub struct GivenClip {
+    pub x0: u32,
+    pub y0: u32,
+    pub x1: u32,
+    pub y1: u32,
+}
+
+impl From<Shape> for GivenShape {
+    fn from(shape: Shape) -> GivenShape {
+        let (kind, [a, b, c, d]) = match shape {
+            Shape::Line(Line {
+                exact,
+                x0,
+                y0,
+                x1,
+                y1,
+            }) => (if exact { 3 } else { 4 }, [x0, y0, x1, y1].map(i32::from)),
+            Shape::Disc(Disc { x, y, radius }) => (5, [x.into(), y.into(), radius.into(), 0]),
+            Shape::Ring(Ring {
+                x,
+                y,
+                radius,
+                width,
+            }) => (6, [x.into(), y.into(), radius.into(), width.into()]),
+        };
+        GivenShape {
+            kind,
+            numbers: [a, b, c, d, 0, 0],
+        }
+    }
+}
+
+impl From<Clip> for GivenClip {
+    fn from(clip: Clip) -> GivenClip {
+        GivenClip {
+            x0: clip.x0.into(),
+            y0: clip.y0.into(),
+            x1: clip.x1.into(),
+            y1: clip.y1.into(),
+        }
+    }
+}
+
+/// A fraction n over d.
 #[repr(C)]
 pub struct CoverageAnswer {
-    pub refusal: u64,
+    pub refusal: u32,
+    pub place: usize,
     pub n: u64,
     pub d: u64,
 }
 
-/// The number of touched pixels when `refusal` is 0; else 0.
+/// The number of touched pixels.
 #[repr(C)]
 pub struct DrawAnswer {
-    pub refusal: u64,
+    pub refusal: u32,
+    pub place: usize,
     pub touched: u64,
 }
 
-/// A record when `refusal` is 0: how many bytes it has, its kind byte, and its numbers in order.
+/// A record: how many bytes it has, its kind byte, and its numbers in order.
 #[repr(C)]
 pub struct ReadAnswer {
-    pub refusal: u64,
-    pub size: u64,
-    pub kind: u64,
-    pub a: i32,
-    pub b: i32,
-    pub c: i32,
-    pub d: i32,
+    pub refusal: u32,
+    pub place: usize,
+    pub size: usize,
+    pub kind: u32,
+    pub numbers: [i32; 6],
 }
 
-/// A list's header when `refusal` is 0; else the place of the refusal.
+/// A list's header.
 #[repr(C)]
 pub struct CheckAnswer {
-    pub refusal: u64,
+    pub refusal: u32,
     pub place: usize,
-    pub w: u64,
-    pub h: u64,
-    pub background: u64,
+    pub w: u32,
+    pub h: u32,
+    pub background: u8,
 }
 
-/// The page's size and how many touches were made when `refusal` is 0; else the place of the
-/// refusal.
+/// The page's size and how many touches were made.
 #[repr(C)]
 pub struct ListAnswer {
-    pub refusal: u64,
+    pub refusal: u32,
     pub place: usize,
-    pub w: u64,
-    pub h: u64,
+    pub w: u32,
+    pub h: u32,
     pub touched: u64,
 }
 
-/// The place and the page's size from now on.
+/// Where the next record goes and the page's size, from now on; after a refusal as they were given.
 #[repr(C)]
 pub struct WriteAnswer {
-    pub refusal: u64,
+    pub refusal: u32,
     pub place: usize,
-    pub w: u64,
-    pub h: u64,
+    pub next: usize,
+    pub w: u32,
+    pub h: u32,
 }
 
-// Queries take plain numbers by value and have no precondition, so each is safe to call.
+// The query takes plain numbers by value and has no precondition, so it is safe to call.
 extern "C" {
-    pub fn greystroke_line_coverage(
-        exact: bool,
-        x0: i16,
-        y0: i16,
-        x1: i16,
-        y1: i16,
-        x: i16,
-        y: i16,
-    ) -> CoverageAnswer;
-    pub fn greystroke_disc_coverage(
-        cx: i16,
-        cy: i16,
-        radius: u16,
-        x: i16,
-        y: i16,
-    ) -> CoverageAnswer;
-    pub fn greystroke_ring_coverage(
-        cx: i16,
-        cy: i16,
-        radius: u16,
-        width: u16,
-        x: i16,
-        y: i16,
-    ) -> CoverageAnswer;
+    pub fn greystroke_coverage(shape: GivenShape, x: i32, y: i32) -> CoverageAnswer;
 }
 
 // A page is lent as its first byte and its length. Safe to call if these are a slice that nothing
 // else reads or writes meanwhile; any size, clip and shape may go with it.
 extern "C" {
-    pub fn greystroke_draw_line(
+    pub fn greystroke_draw_shape(
         page: *mut u8,
         page_length: usize,
-        w: u16,
-        h: u16,
-        left: u16,
-        top: u16,
-        right: u16,
-        bottom: u16,
+        w: u32,
+        h: u32,
+        clip: GivenClip,
         level: u8,
-        exact: bool,
-        x0: i16,
-        y0: i16,
-        x1: i16,
-        y1: i16,
-    ) -> DrawAnswer;
-    pub fn greystroke_draw_disc(
-        page: *mut u8,
-        page_length: usize,
-        w: u16,
-        h: u16,
-        left: u16,
-        top: u16,
-        right: u16,
-        bottom: u16,
-        level: u8,
-        cx: i16,
-        cy: i16,
-        radius: u16,
-    ) -> DrawAnswer;
-    pub fn greystroke_draw_ring(
-        page: *mut u8,
-        page_length: usize,
-        w: u16,
-        h: u16,
-        left: u16,
-        top: u16,
-        right: u16,
-        bottom: u16,
-        level: u8,
-        cx: i16,
-        cy: i16,
-        radius: u16,
-        width: u16,
+        shape: GivenShape,
     ) -> DrawAnswer;
 }
 
@@ -141,8 +140,8 @@ extern "C" {
     pub fn greystroke_read_record(
         list: *const u8,
         list_length: usize,
-        w: u16,
-        h: u16,
+        w: u32,
+        h: u32,
     ) -> ReadAnswer;
     pub fn greystroke_check_list(list: *const u8, list_length: usize, page: usize) -> CheckAnswer;
 }
@@ -165,69 +164,41 @@ extern "C" {
         list: *mut u8,
         list_length: usize,
         place: usize,
-        w: u16,
-        h: u16,
-        width: u16,
-        height: u16,
+        w: u32,
+        h: u32,
+        width: u32,
+        height: u32,
         background: u8,
     ) -> WriteAnswer;
     pub fn greystroke_write_end(
         list: *mut u8,
         list_length: usize,
         place: usize,
-        w: u16,
-        h: u16,
+        w: u32,
+        h: u32,
     ) -> WriteAnswer;
     pub fn greystroke_write_clip(
         list: *mut u8,
         list_length: usize,
         place: usize,
-        w: u16,
-        h: u16,
-        left: u16,
-        top: u16,
-        right: u16,
-        bottom: u16,
+        w: u32,
+        h: u32,
+        clip: GivenClip,
     ) -> WriteAnswer;
     pub fn greystroke_write_level(
         list: *mut u8,
         list_length: usize,
         place: usize,
-        w: u16,
-        h: u16,
+        w: u32,
+        h: u32,
         level: u8,
     ) -> WriteAnswer;
-    pub fn greystroke_write_line(
+    pub fn greystroke_write_shape(
         list: *mut u8,
         list_length: usize,
         place: usize,
-        w: u16,
-        h: u16,
-        exact: bool,
-        x0: i16,
-        y0: i16,
-        x1: i16,
-        y1: i16,
-    ) -> WriteAnswer;
-    pub fn greystroke_write_disc(
-        list: *mut u8,
-        list_length: usize,
-        place: usize,
-        w: u16,
-        h: u16,
-        cx: i16,
-        cy: i16,
-        radius: u16,
-    ) -> WriteAnswer;
-    pub fn greystroke_write_ring(
-        list: *mut u8,
-        list_length: usize,
-        place: usize,
-        w: u16,
-        h: u16,
-        cx: i16,
-        cy: i16,
-        radius: u16,
-        width: u16,
+        w: u32,
+        h: u32,
+        shape: GivenShape,
     ) -> WriteAnswer;
 }

@@ -1,9 +1,8 @@
 //! One shape on a lent page.
 
-use crate::boundary::{
-    greystroke_draw_disc, greystroke_draw_line, greystroke_draw_ring, DrawAnswer,
-};
-use crate::{Disc, Line, Refusal, Ring, Shape};
+use crate::boundary::greystroke_draw_shape;
+use crate::list::accepted_call;
+use crate::{Refusal, Shape};
 
 /// The sides of a page, 1 to 1024 each. Pixel (x, y) is byte y · width + x.
 #[derive(Clone, Copy, Debug, PartialEq, Eq)]
@@ -61,78 +60,18 @@ pub fn draw_shape(
     level: u8,
     shape: Shape,
 ) -> Result<u64, Refusal> {
-    let answer = match shape {
-        Shape::Line(line) => line_answer(page, size, clip, level, line),
-        Shape::Disc(disc) => disc_answer(page, size, clip, level, disc),
-        Shape::Ring(ring) => ring_answer(page, size, clip, level, ring),
+    // SAFETY: the page is a slice of its own, and all else are plain numbers by value.
+    let answer = unsafe {
+        greystroke_draw_shape(
+            page.as_mut_ptr(),
+            page.len(),
+            size.width.into(),
+            size.height.into(),
+            clip.into(),
+            level,
+            shape.into(),
+        )
     };
-    if answer.refusal == 0 {
-        Ok(answer.touched)
-    } else {
-        let refusal = Refusal::from_number(answer.refusal);
-        Err(refusal.expect("a shape is refused by 3, 21 or 7 to 11"))
-    }
-}
-
-fn line_answer(page: &mut [u8], size: Size, clip: Clip, level: u8, line: Line) -> DrawAnswer {
-    // SAFETY: the page is a slice of its own, and all else are plain numbers by value.
-    unsafe {
-        greystroke_draw_line(
-            page.as_mut_ptr(),
-            page.len(),
-            size.width,
-            size.height,
-            clip.x0,
-            clip.y0,
-            clip.x1,
-            clip.y1,
-            level,
-            line.exact,
-            line.x0,
-            line.y0,
-            line.x1,
-            line.y1,
-        )
-    }
-}
-
-fn disc_answer(page: &mut [u8], size: Size, clip: Clip, level: u8, disc: Disc) -> DrawAnswer {
-    // SAFETY: the page is a slice of its own, and all else are plain numbers by value.
-    unsafe {
-        greystroke_draw_disc(
-            page.as_mut_ptr(),
-            page.len(),
-            size.width,
-            size.height,
-            clip.x0,
-            clip.y0,
-            clip.x1,
-            clip.y1,
-            level,
-            disc.x,
-            disc.y,
-            disc.radius,
-        )
-    }
-}
-
-fn ring_answer(page: &mut [u8], size: Size, clip: Clip, level: u8, ring: Ring) -> DrawAnswer {
-    // SAFETY: the page is a slice of its own, and all else are plain numbers by value.
-    unsafe {
-        greystroke_draw_ring(
-            page.as_mut_ptr(),
-            page.len(),
-            size.width,
-            size.height,
-            clip.x0,
-            clip.y0,
-            clip.x1,
-            clip.y1,
-            level,
-            ring.x,
-            ring.y,
-            ring.radius,
-            ring.width,
-        )
-    }
+    accepted_call(answer.refusal, answer.place)?;
+    Ok(answer.touched)
 }

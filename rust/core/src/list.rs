@@ -1,9 +1,9 @@
 //! Drawing lists: reading a record, checking a whole list, writing one.
 
 use crate::boundary::{
-    greystroke_check_list, greystroke_read_record, greystroke_write_clip, greystroke_write_disc,
-    greystroke_write_end, greystroke_write_header, greystroke_write_level, greystroke_write_line,
-    greystroke_write_ring, ReadAnswer, WriteAnswer,
+    greystroke_check_list, greystroke_read_record, greystroke_write_clip, greystroke_write_end,
+    greystroke_write_header, greystroke_write_level, greystroke_write_shape, ReadAnswer,
+    WriteAnswer,
 };
 use crate::{Clip, Disc, Line, Refusal, Ring, Shape, Size};
 use std::error::Error;
@@ -63,12 +63,11 @@ impl Error for ListRefusal {}
 /// assert_eq!(read_record(&[2], size), Err(Refusal::CutShort));
 /// ```
 pub fn read_record(bytes: &[u8], size: Size) -> Result<(Record, &[u8]), Refusal> {
-    let Size { width, height } = size;
+    let (w, h) = (size.width.into(), size.height.into());
     // SAFETY: the bytes are a slice, and all else are plain numbers by value.
-    let answer = unsafe { greystroke_read_record(bytes.as_ptr(), bytes.len(), width, height) };
-    accepted(answer.refusal)?;
-    let length: usize = narrow(answer.size);
-    Ok((record_of(&answer), &bytes[length..]))
+    let answer = unsafe { greystroke_read_record(bytes.as_ptr(), bytes.len(), w, h) };
+    accepted_call(answer.refusal, answer.place)?;
+    Ok((record_of(&answer), &bytes[answer.size..]))
 }
 
 /// Tries a whole list for a page of so many bytes.
@@ -91,16 +90,10 @@ pub fn read_record(bytes: &[u8], size: Size) -> Result<(Record, &[u8]), Refusal>
 pub fn check_list(list: &[u8], page_length: usize) -> Result<Header, ListRefusal> {
     // SAFETY: the list is a slice, and the page's length is a plain number by value.
     let answer = unsafe { greystroke_check_list(list.as_ptr(), list.len(), page_length) };
-    accepted(answer.refusal).map_err(|refusal| ListRefusal {
-        refusal,
-        place: answer.place,
-    })?;
+    accepted_list(answer.refusal, answer.place)?;
     Ok(Header {
-        size: Size {
-            width: narrow(answer.w),
-            height: narrow(answer.h),
-        },
-        background: narrow(answer.background),
+        size: size_of(answer.w, answer.h),
+        background: answer.background,
     })
 }
 
@@ -147,17 +140,19 @@ impl<'a> Writer<'a> {
     ///
     /// [`Refusal::PageSize`] of the header, then [`Refusal::NoRoom`]. Nothing is changed then.
     pub fn write_header(&mut self, header: Header) -> Result<(), Refusal> {
-        let Size { width, height } = self.size;
+        let (list, length) = (self.list.as_mut_ptr(), self.list.len());
+        let (w, h) = self.sides();
+        let (width, height) = (header.size.width.into(), header.size.height.into());
         // SAFETY: the list is a slice of its own, and all else are plain numbers by value.
         let answer = unsafe {
             greystroke_write_header(
-                self.list.as_mut_ptr(),
-                self.list.len(),
+                list,
+                length,
                 self.place,
+                w,
+                h,
                 width,
                 height,
-                header.size.width,
-                header.size.height,
                 header.background,
             )
         };
@@ -172,111 +167,73 @@ impl<'a> Writer<'a> {
     /// earns of [`Refusal::Coordinate`] to [`Refusal::RingWidth`], and [`Refusal::NoRoom`].
     /// Nothing is changed then.
     pub fn write_record(&mut self, record: Record) -> Result<(), Refusal> {
-        let answer = match record {
-            Record::End => self.end_answer(),
-            Record::Setting(Setting::Clip(clip)) => self.clip_answer(clip),
-            Record::Setting(Setting::Level(level)) => self.level_answer(level),
-            Record::Shape(Shape::Line(line)) => self.line_answer(line),
-            Record::Shape(Shape::Disc(disc)) => self.disc_answer(disc),
-            Record::Shape(Shape::Ring(ring)) => self.ring_answer(ring),
+        let (list, length) = (self.list.as_mut_ptr(), self.list.len());
+        let (w, h) = self.sides();
+        let place = self.place;
+        // SAFETY: the list is a slice of its own, and all else are plain numbers by value.
+        let answer = unsafe {
+            match record {
+                Record::End => greystroke_write_end(list, length, place, w, h),
+                Record::Setting(Setting::Clip(clip)) => {
+                    greystroke_write_clip(list, length, place, w, h, clip.into())
+                }
+                Record::Setting(Setting::Level(level)) => {
+                    greystroke_write_level(list, length, place, w, h, level)
+                }
+                Record::Shape(shape) => {
+                    greystroke_write_shape(list, length, place, w, h, shape.into())
+                }
+            }
         };
         self.take(answer)
     }
 
-    /// The library answers place and size whole, unchanged after a refusal.
+    /// W and H as they cross.
+    fn sides(&self) -> (u32, u32) {
+        (self.size.width.into(), self.size.height.into())
+    }
+
+    /// The library answers what the writer holds from now on whole, unchanged after a refusal.
     fn take(&mut self, answer: WriteAnswer) -> Result<(), Refusal> {
-        self.place = answer.place;
-        self.size = Size {
-            width: narrow(answer.w),
-            height: narrow(answer.h),
-        };
-        accepted(answer.refusal)
-    }
-
-    fn end_answer(&mut self) -> WriteAnswer {
-        let Size { width, height } = self.size;
-        let (list, length) = (self.list.as_mut_ptr(), self.list.len());
-        // SAFETY: the list is a slice of its own, and all else are plain numbers by value.
-        unsafe { greystroke_write_end(list, length, self.place, width, height) }
-    }
-
-    fn clip_answer(&mut self, clip: Clip) -> WriteAnswer {
-        let Size { width, height } = self.size;
-        let (list, length) = (self.list.as_mut_ptr(), self.list.len());
-        let Clip { x0, y0, x1, y1 } = clip;
-        // SAFETY: the list is a slice of its own, and all else are plain numbers by value.
-        unsafe { greystroke_write_clip(list, length, self.place, width, height, x0, y0, x1, y1) }
-    }
-
-    fn level_answer(&mut self, level: u8) -> WriteAnswer {
-        let Size { width, height } = self.size;
-        let (list, length) = (self.list.as_mut_ptr(), self.list.len());
-        // SAFETY: the list is a slice of its own, and all else are plain numbers by value.
-        unsafe { greystroke_write_level(list, length, self.place, width, height, level) }
-    }
-
-    fn line_answer(&mut self, line: Line) -> WriteAnswer {
-        let Size { width, height } = self.size;
-        // SAFETY: the list is a slice of its own, and all else are plain numbers by value.
-        unsafe {
-            greystroke_write_line(
-                self.list.as_mut_ptr(),
-                self.list.len(),
-                self.place,
-                width,
-                height,
-                line.exact,
-                line.x0,
-                line.y0,
-                line.x1,
-                line.y1,
-            )
-        }
-    }
-
-    fn disc_answer(&mut self, disc: Disc) -> WriteAnswer {
-        let Size { width, height } = self.size;
-        let (list, length) = (self.list.as_mut_ptr(), self.list.len());
-        let Disc { x, y, radius } = disc;
-        // SAFETY: the list is a slice of its own, and all else are plain numbers by value.
-        unsafe { greystroke_write_disc(list, length, self.place, width, height, x, y, radius) }
-    }
-
-    fn ring_answer(&mut self, ring: Ring) -> WriteAnswer {
-        let Size { width, height } = self.size;
-        // SAFETY: the list is a slice of its own, and all else are plain numbers by value.
-        unsafe {
-            greystroke_write_ring(
-                self.list.as_mut_ptr(),
-                self.list.len(),
-                self.place,
-                width,
-                height,
-                ring.x,
-                ring.y,
-                ring.radius,
-                ring.width,
-            )
-        }
+        self.place = answer.next;
+        self.size = size_of(answer.w, answer.h);
+        accepted_call(answer.refusal, answer.place)
     }
 }
 
-/// Nothing, or the refusal of this number.
-pub(crate) fn accepted(refusal: u64) -> Result<(), Refusal> {
-    match refusal {
+/// Nothing, or the refusal of a call on a whole list.
+pub(crate) fn accepted_list(number: u32, place: usize) -> Result<(), ListRefusal> {
+    match number {
         0 => Ok(()),
-        number => Err(Refusal::from_number(number).expect("a refusal has a number of its own")),
+        _ => Err(ListRefusal {
+            refusal: Refusal::from_number(number.into()).expect("a refusal has its number"),
+            place,
+        }),
+    }
+}
+
+/// Nothing, or the refusal of any other call. Its place is 0: a library that tells another is not
+/// the one that this wrapper was written for.
+pub(crate) fn accepted_call(number: u32, place: usize) -> Result<(), Refusal> {
+    assert_eq!(place, 0, "refusal {number} of a call has another place");
+    accepted_list(number, place).map_err(|refused| refused.refusal)
+}
+
+pub(crate) fn size_of(w: u32, h: u32) -> Size {
+    Size {
+        width: narrow(w),
+        height: narrow(h),
     }
 }
 
 /// A field of an answer, which crosses wider than it is.
-pub(crate) fn narrow<W: Copy + Debug, N: TryFrom<W>>(wide: W) -> N {
+fn narrow<W: Copy + Debug, N: TryFrom<W>>(wide: W) -> N {
     let narrowed = N::try_from(wide).ok();
     narrowed.unwrap_or_else(|| panic!("{wide:?} is too wide for its field"))
 }
 
 fn record_of(answer: &ReadAnswer) -> Record {
-    let &ReadAnswer { a, b, c, d, .. } = answer;
+    let [a, b, c, d, ..] = answer.numbers;
     match answer.kind {
         0 => Record::End,
         1 => Record::Setting(Setting::Clip(Clip {
@@ -286,14 +243,14 @@ fn record_of(answer: &ReadAnswer) -> Record {
             y1: narrow(d),
         })),
         2 => Record::Setting(Setting::Level(narrow(a))),
-        kind => Record::Shape(shape_of(kind, answer)),
+        _ => Record::Shape(shape_of(answer)),
     }
 }
 
-fn shape_of(kind: u64, answer: &ReadAnswer) -> Shape {
-    let &ReadAnswer { a, b, c, d, .. } = answer;
-    match kind {
-        3 | 4 => Shape::Line(Line {
+fn shape_of(answer: &ReadAnswer) -> Shape {
+    let [a, b, c, d, ..] = answer.numbers;
+    match answer.kind {
+        kind @ (3 | 4) => Shape::Line(Line {
             exact: kind == 3,
             x0: narrow(a),
             y0: narrow(b),
@@ -311,6 +268,6 @@ fn shape_of(kind: u64, answer: &ReadAnswer) -> Shape {
             radius: narrow(c),
             width: narrow(d),
         }),
-        _ => panic!("the library read a record of kind {kind}"),
+        kind => panic!("the library read a record of kind {kind}"),
     }
 }

@@ -1,7 +1,7 @@
 //! A whole list on a lent page.
 
 use crate::boundary::greystroke_draw_list;
-use crate::list::{accepted, narrow};
+use crate::list::{accepted_list, size_of};
 use crate::{ListRefusal, Size};
 
 /// What a list drew: the size of its page, and how many pixels its shapes touched, each counted
@@ -37,15 +37,9 @@ pub fn draw_list(page: &mut [u8], list: &[u8]) -> Result<Picture, ListRefusal> {
     // SAFETY: page and list are slices, and the page, being borrowed alone, is apart from the list.
     let answer =
         unsafe { greystroke_draw_list(page.as_mut_ptr(), page.len(), list.as_ptr(), list.len()) };
-    accepted(answer.refusal).map_err(|refusal| ListRefusal {
-        refusal,
-        place: answer.place,
-    })?;
+    accepted_list(answer.refusal, answer.place)?;
     Ok(Picture {
-        size: Size {
-            width: narrow(answer.w),
-            height: narrow(answer.h),
-        },
+        size: size_of(answer.w, answer.h),
         touched: answer.touched,
     })
 }

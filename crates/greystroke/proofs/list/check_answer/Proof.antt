@@ -3,11 +3,16 @@ use borrow.Author.Needs.{needs}
 use Rattle.greystroke.proofs.list.check_answer.Statement.{statement}
 use Rattle.greystroke.proofs.list.check_answer.Tie as tie
 
+returns : tie.Need-returns
+returns c = rw (c .before .before .before .checked .given .1)
+
+returns-2 : tie.Need-returns-2
+returns-2 c = rw (c .before .checked2 .given .1)
+
 pub check-answer-spec : {M : Type 1} → statement M
 check-answer-spec =
     tie.close
     (tie.spec
     (λ c. search needs) (λ c. search needs) (λ c. search needs) (λ c. search needs) (λ c. search needs)
-    (λ c. search needs)
-    (λ c. rw (c .before .before .before .before .checked .given .1))
-    (λ c. rw (c .before .checked2 .given .1)))
+    returns
+    returns-2)

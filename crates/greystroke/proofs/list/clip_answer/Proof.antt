@@ -10,12 +10,11 @@ use Rattle.greystroke.proofs.list.clip_answer.Tie as tie
 returns : tie.Need-returns
 unfolding kindSize kindOf fieldsOf
 returns c =
-    let size = c .before .before .before .before .size-of in
-    let a = c .before .before .before .wide-unsigned in
-    let b = c .before .before .wide-unsigned2 in
-    let d = c .before .wide-unsigned3 in
-    let e = c .wide-unsigned4 in
-    rw (size .ensures, kept w32 _ (a .ok) ∙ a .ensures, kept w32 _ (b .ok) ∙ b .ensures, kept w32 _ (d .ok) ∙ d .ensures, kept w32 _ (e .ok) ∙ e .ensures)
+    let a = c .before .before .before .before .wide-unsigned in
+    let b = c .before .before .before .wide-unsigned2 in
+    let d = c .before .before .wide-unsigned3 in
+    let e = c .before .wide-unsigned4 in
+    rw (kept w32 _ (a .ok) ∙ a .ensures, kept w32 _ (b .ok) ∙ b .ensures, kept w32 _ (d .ok) ∙ d .ensures, kept w32 _ (e .ok) ∙ e .ensures) at (c .numbered .ensures)
 
 pub clip-answer-spec : {M : Type 1} → statement M
 clip-answer-spec =

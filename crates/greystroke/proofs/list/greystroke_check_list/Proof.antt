@@ -5,9 +5,8 @@ use Rattle.greystroke.specs.Lists.{checkAnswer}
 use Rattle.greystroke.proofs.list.greystroke_check_list.Statement.{statement}
 use Rattle.greystroke.proofs.list.greystroke_check_list.Tie as tie
 
+returns : tie.Need-returns
+returns c = c .check-answer .ensures ∙ ap checkAnswer (c .before .check-list .ensures)
+
 pub greystroke-check-list-spec : {M : Type 1} → statement M
-greystroke-check-list-spec =
-    tie.close
-    (tie.spec
-    (λ c κs. search needs) (λ c κs. search needs)
-    (λ c. c .check-answer .ensures ∙ ap checkAnswer (c .before .check-list .ensures)))
+greystroke-check-list-spec = tie.close (tie.spec (λ c κs. search needs) (λ c κs. search needs) returns)

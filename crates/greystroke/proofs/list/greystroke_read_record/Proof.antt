@@ -1,13 +1,16 @@
--- The library's answer in C's form.
+-- The library's answer in C's form, by the W and H that are taken.
 use mathlib.Core.Path.{_∙_, ap}
 use borrow.Author.Needs.{needs}
 use Rattle.greystroke.specs.Lists.{readAnswer}
 use Rattle.greystroke.proofs.list.greystroke_read_record.Statement.{statement}
 use Rattle.greystroke.proofs.list.greystroke_read_record.Tie as tie
 
+returns : tie.Need-returns
+returns c =
+    let call = c .before in
+    let two = call .before in
+    c .read-answer .ensures ∙ ap readAnswer (rw (two .before .side .ensures, two .side2 .ensures) at (call .read-record .ensures))
+
 pub greystroke-read-record-spec : {M : Type 1} → statement M
 greystroke-read-record-spec =
-    tie.close
-    (tie.spec
-    (λ c κs. search needs) (λ c κs. search needs)
-    (λ c. c .read-answer .ensures ∙ ap readAnswer (c .before .read-record .ensures)))
+    tie.close (tie.spec (λ c κs. search needs) (λ c κs. search needs) (λ c κs. search needs) (λ c κs. search needs) returns)

@@ -7,10 +7,11 @@ use borrow.Author.Needs.{needs}
 use Rattle.greystroke.proofs.list.level_answer.Statement.{statement}
 use Rattle.greystroke.proofs.list.level_answer.Tie as tie
 
-pub level-answer-spec : {M : Type 1} → statement M
+returns : tie.Need-returns
 unfolding kindSize kindOf fieldsOf
-level-answer-spec =
-    tie.close
-    (tie.spec
-    (λ c κs. search needs) (λ c κs. search needs)
-    (λ c. rw (c .before .size-of .ensures, kept w32 _ (c .wide-unsigned .ok) ∙ c .wide-unsigned .ensures)))
+returns c =
+    let v = c .before .wide-unsigned in
+    rw (kept w32 _ (v .ok) ∙ v .ensures) at (c .numbered .ensures)
+
+pub level-answer-spec : {M : Type 1} → statement M
+level-answer-spec = tie.close (tie.spec (λ c κs. search needs) (λ c κs. search needs) returns)

@@ -4,11 +4,14 @@ use borrow.Author.Needs.{needs}
 use Rattle.greystroke.proofs.list.record_answer.Statement.{statement}
 use Rattle.greystroke.proofs.list.record_answer.Tie as tie
 
-pub record-answer-spec : {M : Type 1} → statement M
+returns : tie.Need-returns
 unfolding kindSize kindOf fieldsOf
+returns c = rw (c .before .enum-told .given .1) (c .numbered .ensures)
+
+pub record-answer-spec : {M : Type 1} → statement M
 record-answer-spec =
     tie.close
     (tie.spec
     (λ c. search needs) (λ c κs. search needs) (λ c. search needs) (λ c κs. search needs) (λ c. search needs) (λ c κs. search needs)
-    (λ c. rw (c .before .enum-told .given .1, c .size-of .ensures))
+    returns
     (λ c. search needs) (λ c. search needs))

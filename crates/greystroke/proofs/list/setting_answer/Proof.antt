@@ -3,10 +3,16 @@ use borrow.Author.Needs.{needs}
 use Rattle.greystroke.proofs.list.setting_answer.Statement.{statement}
 use Rattle.greystroke.proofs.list.setting_answer.Tie as tie
 
+returns : tie.Need-returns
+returns c = rw (c .before .before .setting .given .1) (c .clip-answer .ensures)
+
+returns-2 : tie.Need-returns-2
+returns-2 c = rw (c .before .before .setting2 .given .1) (c .level-answer .ensures)
+
 pub setting-answer-spec : {M : Type 1} → statement M
 setting-answer-spec =
     tie.close
     (tie.spec
     (λ c. search needs) (λ c κs. search needs) (λ c. search needs) (λ c κs. search needs)
-    (λ c. rw (c .before .before .setting .given .1) (c .clip-answer .ensures))
-    (λ c. rw (c .before .before .setting2 .given .1) (c .level-answer .ensures)))
+    returns
+    returns-2)

@@ -6,9 +6,8 @@ use borrow.Author.Needs.{needs}
 use Rattle.greystroke.proofs.list.wide_unsigned.Statement.{statement}
 use Rattle.greystroke.proofs.list.wide_unsigned.Tie as tie
 
+returns : tie.Need-returns
+returns c = toZ-pos w32 {n = c .args .n} (omega arith)
+
 pub wide-unsigned-spec : {M : Type 1} → statement M
-wide-unsigned-spec =
-    tie.close
-    (tie.spec
-    (λ c. search needs)
-    (λ c. toZ-pos w32 {n = c .args .n} (omega arith)))
+wide-unsigned-spec = tie.close (tie.spec (λ c. search needs) returns)

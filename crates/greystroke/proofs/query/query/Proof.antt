@@ -1,15 +1,24 @@
--- The library's answer in C's form; the pixel comes back from its locals as it was.
+-- The library's answer in C's form, about the pixel that is taken.
 use mathlib.Core.Path.{_∙_, ap}
+use mir.Syntax.{w16}
 use mir.Facts.{toZ-ofZ}
-use Rattle.greystroke.specs.Answers.{answered}
+use Rattle.shapes.proofs.Limits.{kept}
+use Rattle.greystroke.specs.Taken.{coordinateOf}
+use Rattle.greystroke.specs.Answers.{answered, coverageAsked}
 use borrow.Author.Needs.{needs}
 use Rattle.greystroke.proofs.query.query.Statement.{statement}
 use Rattle.greystroke.proofs.query.query.Tie as tie
 
 returns : tie.Need-returns
+unfolding coverageAsked
 returns c =
-    let fits = c .before .before .fits in
-    c .coverage-answer .ensures ∙ ap answered (rw (toZ-ofZ (fits .x), toZ-ofZ (fits .y)) at (c .before .coverage .ensures))
+    let two = c .before .before in
+    let one = two .before in
+    let fits = one .before .fits in
+    let x = kept w16 _ (one .coordinate .ok) ∙ one .coordinate .ensures ∙ ap coordinateOf (toZ-ofZ (fits .x)) in
+    let y = kept w16 _ (two .coordinate2 .ok) ∙ two .coordinate2 .ensures ∙ ap coordinateOf (toZ-ofZ (fits .y)) in
+    c .coverage-answer .ensures ∙ ap answered (rw (x, y) at (c .before .coverage .ensures))
 
 pub query-spec : {M : Type 1} → statement M
-query-spec = tie.close (tie.spec (λ c κs. search needs) (λ c κs. search needs) returns)
+query-spec =
+    tie.close (tie.spec (λ c κs. search needs) (λ c κs. search needs) (λ c κs. search needs) (λ c κs. search needs) returns)

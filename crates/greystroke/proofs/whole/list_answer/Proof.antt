@@ -4,10 +4,15 @@ use borrow.Author.Needs.{needs}
 use Rattle.greystroke.proofs.whole.list_answer.Statement.{statement}
 use Rattle.greystroke.proofs.whole.list_answer.Tie as tie
 
-pub list-answer-spec : {M : Type 1} → statement M
+returns : tie.Need-returns
 unfolding listAnswered
+returns c = rw (c .before .answer .given .1)
+
+returns-2 : tie.Need-returns-2
+unfolding listAnswered
+returns-2 c = rw (c .before .answer2 .given .1)
+
+pub list-answer-spec : {M : Type 1} → statement M
 list-answer-spec =
     tie.close
-    (tie.spec
-    (λ c. search needs) (λ c. search needs) (λ c. search needs) (λ c. search needs) (λ c. search needs) (λ c. cc)
-    (λ c. cc))
+    (tie.spec (λ c. search needs) (λ c. search needs) (λ c. search needs) (λ c. search needs) (λ c. search needs) returns returns-2)

@@ -1,0 +1,3 @@
+-- The laws of the C interface.
+pub mod Held
+pub mod Refused

@@ -1,0 +1,45 @@
+-- Each arm takes the shape of its kind; a kind of no arm is unknown.
+use mathlib.Core.Path.{ap}
+use borrow.Author.Needs.{needs}
+use borrow.Author.Tests.{ne-eqb}
+use Rattle.shapes.specs.declared.Line.{Line}
+use Rattle.shapes.specs.declared.Disc.{Disc}
+use Rattle.shapes.specs.declared.Ring.{Ring}
+use Rattle.shapes.specs.declared.Shape.the-variants.{Line as line, Disc as disc, Ring as ring}
+use Rattle.greystroke.specs.Taken.{takenOf}
+use Rattle.greystroke.specs.declared.taken.Taken.the-variants.{Known}
+use Rattle.greystroke.proofs.taken.taken_of.Statement.{statement}
+use Rattle.greystroke.proofs.taken.taken_of.Tie as tie
+
+returns : tie.Need-returns
+unfolding takenOf
+returns c = rw (c .before .match .keys1) (ap (λ (x : Line). Known (line x)) (c .line-of .ensures))
+
+returns-2 : tie.Need-returns-2
+unfolding takenOf
+returns-2 c = rw (c .before .match .keys2) (ap (λ (x : Line). Known (line x)) (c .line-of2 .ensures))
+
+returns-3 : tie.Need-returns-3
+unfolding takenOf
+returns-3 c = rw (c .before .match .keys3) (ap (λ (x : Disc). Known (disc x)) (c .disc-of .ensures))
+
+returns-4 : tie.Need-returns-4
+unfolding takenOf
+returns-4 c = rw (c .before .match .keys4) (ap (λ (x : Ring). Known (ring x)) (c .ring-of .ensures))
+
+returns-5 : tie.Need-returns-5
+unfolding takenOf
+returns-5 c =
+    let r = c .match .rest in
+    simp (ne-eqb _ _ (r .1), ne-eqb _ _ (r .0 .1), ne-eqb _ _ (r .0 .0 .1), ne-eqb _ _ (r .0 .0 .0 .1))
+
+pub taken-of-spec : {M : Type 1} → statement M
+taken-of-spec =
+    tie.close
+    (tie.spec
+    (λ c κs. search needs) (λ c κs. search needs) (λ c κs. search needs) (λ c κs. search needs)
+    returns
+    returns-2
+    returns-3
+    returns-4
+    returns-5)

@@ -1,0 +1,68 @@
+-- The numbers of C as the library takes them. What 16 bits do not hold becomes a number that is refused.
+use mathlib.Core.Bool.{Bool, true, false, cond, _||_}
+use mathlib.Core.List.{List}
+use Prim.Native.Nat.{ℕ, min}
+use lib.Dec.{ltb, eqb}
+use lib.IntN.{ℤ, pos, negsuc}
+use lib.ListN.{getD}
+use lib.Signed.{ltZ}
+use Rattle.shapes.specs.declared.Clip.{Clip}
+use Rattle.shapes.specs.declared.Line.{Line}
+use Rattle.shapes.specs.declared.Disc.{Disc}
+use Rattle.shapes.specs.declared.Ring.{Ring}
+use Rattle.shapes.specs.declared.Shape.the-variants.{Line as line, Disc as disc, Ring as ring}
+use Rattle.greystroke.specs.declared.taken.GivenClip.{GivenClip}
+use Rattle.greystroke.specs.declared.taken.GivenShape.{GivenShape}
+use Rattle.greystroke.specs.declared.taken.Taken.{Taken}
+use Rattle.greystroke.specs.declared.taken.Taken.the-variants.{Known, Unknown}
+
+-- a coordinate of a shape or a pixel; 32,767 is refused by 7
+unfoldable pub coordinateOf : ℤ → ℤ
+coordinateOf z = cond (ltZ z (negsuc 32767) || ltZ (pos 32767) z) (pos 32767) z
+
+-- W or H; 0 is refused by 3
+unfoldable pub sideOf : ℕ → ℕ
+sideOf n = cond (ltb 65535 n) 0 n
+
+-- a radius or a ring's width; 0 is refused by 10 and by 11
+unfoldable pub measureOf : ℤ → ℕ
+measureOf (pos n) = sideOf n
+measureOf (negsuc n) = 0
+
+-- a number of a clip; 65,535 is refused by 8
+unfoldable pub edgeOf : ℕ → ℕ
+edgeOf n = min n 65535
+
+unfoldable pub clipOf : GivenClip → Clip
+clipOf c = record { x0 = edgeOf (c .x0); y0 = edgeOf (c .y0); x1 = edgeOf (c .x1); y1 = edgeOf (c .y1) }
+
+-- ---- a shape by its numbers
+
+abbrev pub numberAt : List ℤ → ℕ → ℤ
+numberAt ns i = getD ns i (pos 0)
+
+abbrev pub coordinateAt : List ℤ → ℕ → ℤ
+coordinateAt ns i = coordinateOf (numberAt ns i)
+
+abbrev pub measureAt : List ℤ → ℕ → ℕ
+measureAt ns i = measureOf (numberAt ns i)
+
+abbrev pub lineOf : Bool → List ℤ → Line
+lineOf exact ns = record { exact = exact; x0 = coordinateAt ns 0; y0 = coordinateAt ns 1; x1 = coordinateAt ns 2; y1 = coordinateAt ns 3 }
+
+abbrev pub discOf : List ℤ → Disc
+discOf ns = record { x = coordinateAt ns 0; y = coordinateAt ns 1; radius = measureAt ns 2 }
+
+abbrev pub ringOf : List ℤ → Ring
+ringOf ns = record { x = coordinateAt ns 0; y = coordinateAt ns 1; radius = measureAt ns 2; width = measureAt ns 3 }
+
+-- the shape of a kind by its numbers; a number of no kind is unknown
+abbrev pub takenBy : ℕ → List ℤ → Taken
+takenBy k ns =
+    cond (eqb k 3) (Known (line (lineOf true ns)))
+    (cond (eqb k 4) (Known (line (lineOf false ns)))
+    (cond (eqb k 5) (Known (disc (discOf ns)))
+    (cond (eqb k 6) (Known (ring (ringOf ns))) Unknown)))
+
+unfoldable pub takenOf : GivenShape → Taken
+takenOf s = takenBy (s .kind) (s .numbers)

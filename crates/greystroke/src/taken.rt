@@ -1,0 +1,130 @@
+// The numbers of C, 32 bits wide, as the library takes them. What its 16 bits do not hold becomes a number that it refuses, so that nothing is narrowed in silence.
+use shapes::Clip;
+use shapes::Disc;
+use shapes::Line;
+use shapes::Ring;
+use shapes::Shape;
+ghost use mathlib.Core.Path.{_≡_};
+ghost use Rattle.greystroke.specs.Taken.{coordinateOf, sideOf, edgeOf, measureOf, clipOf, lineOf, discOf, ringOf, takenOf};
+
+// A shape: its kind byte in a list, and its numbers in the order of the record's fields. Numbers past those that the kind has are ignored.
+#[repr(C)]
+pub struct GivenShape {
+    pub kind: u32,
+    pub numbers: [i32; 6],
+}
+
+#[repr(C)]
+pub struct GivenClip {
+    pub x0: u32,
+    pub y0: u32,
+    pub x1: u32,
+    pub y1: u32,
+}
+
+// The shape of the given numbers, or that there is none of the kind.
+pub enum Taken {
+    Known(Shape),
+    Unknown,
+}
+
+// A coordinate of a shape or a pixel.
+pub(crate) fn coordinate(z: i32) -> i16
+    ensures { λ r. ⌜ r ≡ coordinateOf z ⌝ }
+{
+    if z < -32768 {
+        return 32767;
+    }
+    if 32767 < z {
+        return 32767;
+    }
+    z as i16
+}
+
+// W or H.
+pub(crate) fn side(n: u32) -> u16
+    ensures { λ r. ⌜ r ≡ sideOf n ⌝ }
+{
+    if 65535 < n {
+        return 0;
+    }
+    n as u16
+}
+
+// A number of a clip.
+fn edge(n: u32) -> u16
+    ensures { λ r. ⌜ r ≡ edgeOf n ⌝ }
+{
+    if 65535 < n {
+        return 65535;
+    }
+    n as u16
+}
+
+// A radius or a ring's width.
+fn measure(z: i32) -> u16
+    ensures { λ r. ⌜ r ≡ measureOf z ⌝ }
+{
+    if z < 0 {
+        return 0;
+    }
+    side(z as u32)
+}
+
+pub(crate) fn clip_of(given: GivenClip) -> Clip
+    ensures { λ r. ⌜ r ≡ clipOf given ⌝ }
+{
+    Clip {
+        x0: edge(given.x0),
+        y0: edge(given.y0),
+        x1: edge(given.x1),
+        y1: edge(given.y1),
+    }
+}
+
+fn line_of(exact: bool, numbers: [i32; 6]) -> Line
+    ensures { λ r. ⌜ r ≡ lineOf exact numbers ⌝ }
+{
+    Line {
+        exact,
+        x0: coordinate(numbers[0]),
+        y0: coordinate(numbers[1]),
+        x1: coordinate(numbers[2]),
+        y1: coordinate(numbers[3]),
+    }
+}
+
+fn disc_of(numbers: [i32; 6]) -> Disc
+    ensures { λ r. ⌜ r ≡ discOf numbers ⌝ }
+{
+    Disc {
+        x: coordinate(numbers[0]),
+        y: coordinate(numbers[1]),
+        radius: measure(numbers[2]),
+    }
+}
+
+fn ring_of(numbers: [i32; 6]) -> Ring
+    ensures { λ r. ⌜ r ≡ ringOf numbers ⌝ }
+{
+    Ring {
+        x: coordinate(numbers[0]),
+        y: coordinate(numbers[1]),
+        radius: measure(numbers[2]),
+        width: measure(numbers[3]),
+    }
+}
+
+pub(crate) fn taken_of(given: GivenShape) -> Taken
+    ensures { λ r. ⌜ r ≡ takenOf given ⌝ }
+{
+    let kind = given.kind;
+    let numbers = given.numbers;
+    match kind {
+        3 => Taken::Known(Shape::Line(line_of(true, numbers))),
+        4 => Taken::Known(Shape::Line(line_of(false, numbers))),
+        5 => Taken::Known(Shape::Disc(disc_of(numbers))),
+        6 => Taken::Known(Shape::Ring(ring_of(numbers))),
+        _ => Taken::Unknown,
+    }
+}
