@@ -15,11 +15,11 @@ const LONGEST_FOUND: usize = 60;
 #[derive(Clone, Debug, PartialEq, Eq)]
 pub struct WrongLine {
     pub number: usize,
-    pub reason: Reason,
+    reason: Reason,
 }
 
 #[derive(Clone, Debug, PartialEq, Eq)]
-pub enum Reason {
+enum Reason {
     /// The words are not those of a header or a record.
     Words { expected: Unexpected, found: String },
     /// The library's writer turned the header or the record down.

@@ -13,7 +13,7 @@ const DISC: &str = "disc X Y RADIUS";
 const RING: &str = "ring X Y RADIUS WIDTH";
 const END: &str = "end";
 
-/// Why a line's words are not what was expected.
+/// What a line should have been, where it is something else.
 #[derive(Clone, Debug, PartialEq, Eq)]
 pub struct Unexpected {
     pub expected: &'static str,
