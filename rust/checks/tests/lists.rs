@@ -114,8 +114,7 @@ fn refused_records() -> Vec<(u64, Vec<u8>)> {
     records.extend([3, 4].map(|kind| (9, bytes_of(kind, &[-4096, 4095, -4096, 4095], &[]))));
     records.push((10, bytes_of(5, &[0, 0], &[0])));
     records.extend([0, 1].map(|width| (10, bytes_of(6, &[0, 0], &[0, width]))));
-    records
-        .extend([[1, 0], [255, 0], [1, 2], [254, 255]].map(|r| (11, bytes_of(6, &[0, 0], &r))));
+    records.extend([[1, 0], [255, 0], [1, 2], [254, 255]].map(|r| (11, bytes_of(6, &[0, 0], &r))));
     records
 }
 

@@ -59,6 +59,26 @@ impl Refusal {
         self as u64
     }
 
+    /// What was refused, in words.
+    pub fn reason(self) -> &'static str {
+        match self {
+            Refusal::WrongMark => "the list does not begin with the letters INK",
+            Refusal::WrongVersion => "the list is of another version",
+            Refusal::PageSize => "the width or height of the page is outside 1 to 1,024",
+            Refusal::UnknownKind => "the record is of an unknown kind",
+            Refusal::CutShort => "the list is cut short",
+            Refusal::SurplusBytes => "bytes follow the end record",
+            Refusal::Coordinate => "a coordinate is outside -4,096 to 4,095",
+            Refusal::Clip => "the clip is out of order or off the page",
+            Refusal::EqualEnds => "the ends of the line coincide",
+            Refusal::Radius => "the radius is 0 or above 255",
+            Refusal::RingWidth => "the width of the ring is 0 or above its radius",
+            Refusal::ListTooLong => "the list has more than 65,536 bytes",
+            Refusal::PageTooShort => "the page has fewer bytes than pixels",
+            Refusal::NoRoom => "too few bytes are left in the list, which has at most 65,536",
+        }
+    }
+
     pub(crate) fn from_number(number: u64) -> Option<Refusal> {
         Refusal::ALL
             .into_iter()
@@ -68,23 +88,7 @@ impl Refusal {
 
 impl Display for Refusal {
     fn fmt(&self, formatter: &mut Formatter<'_>) -> fmt::Result {
-        let reason = match self {
-            Refusal::WrongMark => "list without the letters INK",
-            Refusal::WrongVersion => "list of another version",
-            Refusal::PageSize => "page width or height outside 1 to 1024",
-            Refusal::UnknownKind => "unknown kind of record",
-            Refusal::CutShort => "list cut short",
-            Refusal::SurplusBytes => "bytes behind the end record",
-            Refusal::Coordinate => "coordinate outside its range",
-            Refusal::Clip => "clip out of order or off the page",
-            Refusal::EqualEnds => "line whose ends coincide",
-            Refusal::Radius => "radius 0 or above 255",
-            Refusal::RingWidth => "ring width 0 or above the radius",
-            Refusal::ListTooLong => "list longer than 65,536 bytes",
-            Refusal::PageTooShort => "page shorter than its width times its height",
-            Refusal::NoRoom => "no room in the list",
-        };
-        write!(formatter, "refused {}: {reason}", self.number())
+        write!(formatter, "refused {}: {}", self.number(), self.reason())
     }
 }
 

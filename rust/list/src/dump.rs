@@ -1,0 +1,58 @@
+//! A list into a text.
+
+use crate::words::{header_words, record_words};
+use greystroke::{check_list, read_record, Header, ListRefusal};
+
+/// No page has more bytes, so that no list is refused for want of a page.
+const LARGEST_PAGE: usize = 1024 * 1024;
+const HEADER_LENGTH: usize = 10;
+/// Comments begin here, unless the record is longer.
+const COMMENT_COLUMN: usize = 28;
+
+/// What a list holds.
+#[derive(Clone, Debug, PartialEq, Eq)]
+pub struct Dumped {
+    /// Its header and its records, up to its refusal if it has one.
+    pub text: String,
+    pub refusal: Option<ListRefusal>,
+}
+
+/// The text of a list, each line with its place; a refused list up to the place of its refusal,
+/// and then the refusal.
+pub fn dump(list: &[u8]) -> Dumped {
+    let refusal = check_list(list, LARGEST_PAGE).err();
+    let stop = refusal.map_or(list.len(), |refusal| refusal.place);
+    let mut text = String::new();
+    if stop >= HEADER_LENGTH {
+        dump_until(stop, list, &mut text);
+    }
+    if let Some(ListRefusal { refusal, place }) = refusal {
+        let (number, reason) = (refusal.number(), refusal.reason());
+        text += &format!("# refused {number} at {place}: {reason}\n");
+    }
+    Dumped { text, refusal }
+}
+
+/// Header and records in front of `stop`, none of which is refused.
+fn dump_until(stop: usize, list: &[u8], text: &mut String) {
+    let header = header_of(list);
+    *text += &line(&header_words(header), 0);
+    let mut place = HEADER_LENGTH;
+    while place < stop {
+        let (record, rest) = read_record(&list[place..], header.size)
+            .expect("no record in front of a list's refusal is refused");
+        *text += &line(&record_words(record), place);
+        place = list.len() - rest.len();
+    }
+}
+
+/// Whatever follows it, a header is what the library finds in it with an end record behind.
+fn header_of(list: &[u8]) -> Header {
+    let mut header_and_end = list[..HEADER_LENGTH].to_vec();
+    header_and_end.push(0);
+    check_list(&header_and_end, LARGEST_PAGE).expect("the header is not refused")
+}
+
+fn line(words: &str, place: usize) -> String {
+    format!("{words:<COMMENT_COLUMN$} # at {place}\n")
+}

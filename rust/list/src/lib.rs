@@ -1,0 +1,21 @@
+//! Drawing lists as text, one record a line.
+//!
+//! [`make`] turns a text into a list and [`dump`] a list into a text. Words become records here
+//! and records words; bytes are written and read by the proved library alone.
+//!
+//! ```
+//! let text = "page 4 3 0   # black\nexact 1 1 3 2\nend\n";
+//! let list = list::make(text.as_bytes()).unwrap();
+//! assert_eq!(list.len(), 10 + 9 + 1);
+//!
+//! let dumped = list::dump(&list);
+//! assert_eq!(dumped.refusal, None);
+//! assert_eq!(list::make(dumped.text.as_bytes()), Ok(list));
+//! ```
+
+mod dump;
+mod make;
+mod words;
+
+pub use dump::{dump, Dumped};
+pub use make::{make, WrongLine, LONGEST_LIST};

@@ -1,0 +1,158 @@
+//! The words of a line, and what they stand for.
+
+use greystroke::{Clip, Disc, Header, Line, Record, Ring, Setting, Shape, Size};
+use std::str::FromStr;
+
+pub const PAGE: &str = "page W H BACKGROUND";
+pub const RECORD: &str = "a record (clip, level, exact, approximate, disc, ring or end)";
+const CLIP: &str = "clip X Y X Y";
+const LEVEL: &str = "level LEVEL";
+const EXACT: &str = "exact X Y X Y";
+const APPROXIMATE: &str = "approximate X Y X Y";
+const DISC: &str = "disc X Y RADIUS";
+const RING: &str = "ring X Y RADIUS WIDTH";
+const END: &str = "end";
+
+/// What a line should have been, where it is something else.
+#[derive(Clone, Debug, PartialEq, Eq)]
+pub struct Unexpected {
+    pub expected: &'static str,
+    /// A field and the number that does not fit it, where that is the reason.
+    pub unfit: Option<(&'static str, String)>,
+}
+
+/// The header that a first line stands for.
+pub fn header_of(words: &[&str]) -> Result<Header, Unexpected> {
+    let mut fields = Fields::of(words, PAGE)?;
+    let (width, height) = (fields.next()?, fields.next()?);
+    Ok(Header {
+        size: Size { width, height },
+        background: fields.next()?,
+    })
+}
+
+/// The record that a later line stands for.
+pub fn record_of(words: &[&str]) -> Result<Record, Unexpected> {
+    match words.first().copied() {
+        Some("end") => Fields::of(words, END).map(|_| Record::End),
+        Some("clip") => clip_of(words).map(|clip| Record::Setting(Setting::Clip(clip))),
+        Some("level") => {
+            let level = Fields::of(words, LEVEL)?.next()?;
+            Ok(Record::Setting(Setting::Level(level)))
+        }
+        Some("exact") => line_of(words, EXACT, true),
+        Some("approximate") => line_of(words, APPROXIMATE, false),
+        Some("disc") => disc_of(words),
+        Some("ring") => ring_of(words),
+        _ => Err(unexpected(RECORD)),
+    }
+}
+
+fn clip_of(words: &[&str]) -> Result<Clip, Unexpected> {
+    let mut fields = Fields::of(words, CLIP)?;
+    Ok(Clip {
+        x0: fields.next()?,
+        y0: fields.next()?,
+        x1: fields.next()?,
+        y1: fields.next()?,
+    })
+}
+
+fn line_of(words: &[&str], form: &'static str, exact: bool) -> Result<Record, Unexpected> {
+    let mut fields = Fields::of(words, form)?;
+    Ok(Record::Shape(Shape::Line(Line {
+        exact,
+        x0: fields.next()?,
+        y0: fields.next()?,
+        x1: fields.next()?,
+        y1: fields.next()?,
+    })))
+}
+
+fn disc_of(words: &[&str]) -> Result<Record, Unexpected> {
+    let mut fields = Fields::of(words, DISC)?;
+    Ok(Record::Shape(Shape::Disc(Disc {
+        x: fields.next()?,
+        y: fields.next()?,
+        radius: fields.next()?,
+    })))
+}
+
+fn ring_of(words: &[&str]) -> Result<Record, Unexpected> {
+    let mut fields = Fields::of(words, RING)?;
+    Ok(Record::Shape(Shape::Ring(Ring {
+        x: fields.next()?,
+        y: fields.next()?,
+        radius: fields.next()?,
+        width: fields.next()?,
+    })))
+}
+
+/// The numbers of a line, taken one after the other beside the names of their fields.
+struct Fields<'a> {
+    form: &'static str,
+    left: Vec<(&'static str, &'a str)>,
+}
+
+impl<'a> Fields<'a> {
+    /// Words that begin as the form does, and then have one number for each of its fields.
+    fn of(words: &[&'a str], form: &'static str) -> Result<Fields<'a>, Unexpected> {
+        let names: Vec<&str> = form.split_whitespace().collect();
+        let formed = words.len() == names.len()
+            && words[0] == names[0]
+            && words[1..].iter().all(|word| is_number(word));
+        if !formed {
+            return Err(unexpected(form));
+        }
+        let mut left: Vec<_> = names.into_iter().zip(words.iter().copied()).collect();
+        left.remove(0);
+        left.reverse();
+        Ok(Fields { form, left })
+    }
+
+    fn next<T: FromStr>(&mut self) -> Result<T, Unexpected> {
+        let (name, word) = self.left.pop().expect("a field is taken once");
+        word.parse().map_err(|_| Unexpected {
+            expected: self.form,
+            unfit: Some((name, word.to_string())),
+        })
+    }
+}
+
+fn unexpected(expected: &'static str) -> Unexpected {
+    Unexpected {
+        expected,
+        unfit: None,
+    }
+}
+
+/// Digits, with a minus in front or not.
+fn is_number(word: &str) -> bool {
+    let digits = word.strip_prefix('-').unwrap_or(word);
+    !digits.is_empty() && digits.bytes().all(|byte| byte.is_ascii_digit())
+}
+
+pub fn header_words(header: Header) -> String {
+    let Size { width, height } = header.size;
+    format!("page {width} {height} {}", header.background)
+}
+
+pub fn record_words(record: Record) -> String {
+    match record {
+        Record::End => "end".to_string(),
+        Record::Setting(Setting::Clip(Clip { x0, y0, x1, y1 })) => {
+            format!("clip {x0} {y0} {x1} {y1}")
+        }
+        Record::Setting(Setting::Level(level)) => format!("level {level}"),
+        Record::Shape(Shape::Line(line)) => line_words(line),
+        Record::Shape(Shape::Disc(Disc { x, y, radius })) => format!("disc {x} {y} {radius}"),
+        Record::Shape(Shape::Ring(ring)) => {
+            format!("ring {} {} {} {}", ring.x, ring.y, ring.radius, ring.width)
+        }
+    }
+}
+
+fn line_words(line: Line) -> String {
+    let rule = if line.exact { "exact" } else { "approximate" };
+    format!("{rule} {} {} {} {}", line.x0, line.y0, line.x1, line.y1)
+}

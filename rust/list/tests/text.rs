@@ -1,0 +1,323 @@
+//! Texts into lists and back: the examples, random lists, damaged lists and wrong lines.
+
+use checks::listings::{damage, lawful_record, list as any_list};
+use checks::random::Random;
+use greystroke::{check_list, Refusal};
+use list::{dump, make, LONGEST_LIST};
+use reference::format::{encode_header, encode_record, Header};
+use std::fs;
+use std::path::{Path, PathBuf};
+
+const LARGEST_PAGE: usize = 1024 * 1024;
+const ROUNDS: u32 = 3_000;
+
+/// A list of each kind of record, and its text as it is dumped.
+const EACH_KIND: &str = "\
+page 20 16 9                 # at 0
+clip 3 16 20 16              # at 10
+level 0                      # at 19
+exact -4096 4095 7 -2        # at 21
+approximate 7 -2 -4096 4095  # at 30
+disc 4095 -4096 255          # at 39
+ring -1 0 255 255            # at 45
+end                          # at 52
+";
+
+fn examples() -> Vec<PathBuf> {
+    let folder = Path::new(env!("CARGO_MANIFEST_DIR")).join("../../examples");
+    let files = fs::read_dir(folder).expect("the examples are there");
+    let mut lists: Vec<PathBuf> = files.map(|file| file.unwrap().path()).collect();
+    lists.retain(|file| file.extension().is_some_and(|ending| ending == "list"));
+    assert!(lists.len() >= 4, "too few examples: {lists:?}");
+    lists
+}
+
+/// A list that nothing refuses, of up to forty records.
+fn lawful_list(random: &mut Random) -> Vec<u8> {
+    let mut side = || random.between(1, 1024) as u16;
+    let (width, height) = (side(), side());
+    let background = random.bits() as u8;
+    let mut list = encode_header(&Header {
+        width,
+        height,
+        background,
+    });
+    for _ in 0..random.between(0, 40) {
+        list.extend(encode_record(&lawful_record(random, width, height)));
+    }
+    list.push(0);
+    list
+}
+
+/// The lines of a dump that have a record, each with the place that is told.
+fn places(text: &str) -> Vec<usize> {
+    let places = text.lines().filter_map(|line| line.split_once("# at "));
+    places.map(|(_, place)| place.parse().unwrap()).collect()
+}
+
+/// A dump tells the refusal that the check of the list tells, and stops at its place.
+fn assert_told(list: &[u8]) -> Option<Refusal> {
+    let dumped = dump(list);
+    let refused = check_list(list, LARGEST_PAGE).err();
+    assert_eq!(dumped.refusal, refused, "{list:02x?}");
+    let last = dumped.text.lines().last().unwrap_or_default();
+    let Some(refused) = refused else {
+        assert!(last.starts_with("end "), "{}", dumped.text);
+        assert_eq!(make(dumped.text.as_bytes()).as_deref(), Ok(list));
+        return None;
+    };
+    let (number, place) = (refused.refusal.number(), refused.place);
+    let told = format!("# refused {number} at {place}: ");
+    assert!(last.starts_with(&told), "{last} is not {told}");
+    assert_eq!(dumped.text.matches("refused").count(), 1);
+
+    // What is in front of the refusal is whole: with an end record it is a list, the same bytes.
+    let has_end = refused.refusal == Refusal::SurplusBytes;
+    if place > 0 {
+        let mended = if has_end {
+            dumped.text
+        } else {
+            dumped.text + "end\n"
+        };
+        let made = make(mended.as_bytes()).expect("the records of a dump are lawful");
+        assert_eq!(made[..place], list[..place]);
+        assert_eq!(made.len(), place + usize::from(!has_end));
+    } else {
+        assert_eq!(places(&dumped.text), []);
+    }
+    Some(refused.refusal)
+}
+
+/// What `make` says of a text that it refuses.
+fn wrong(text: &str) -> String {
+    let wrong = make(text.as_bytes()).expect_err(text);
+    wrong.to_string()
+}
+
+#[test]
+fn each_kind_of_record_has_its_words() {
+    let list = make(EACH_KIND.as_bytes()).unwrap();
+    assert_eq!(list.len(), 53);
+    assert_eq!(list[10..19], [1, 3, 0, 16, 0, 20, 0, 16, 0]);
+    assert_eq!(list[30..39], [4, 7, 0, 0xFE, 0xFF, 0, 0xF0, 0xFF, 0x0F]);
+    assert_eq!(dump(&list).text, EACH_KIND);
+}
+
+#[test]
+fn the_list_of_the_rules_is_made_from_its_text() {
+    let list = make(b"page 4 3 0\nexact 1 1 3 2\nend").unwrap();
+    let rules = b"INK\x01\x00\x04\x00\x03\x00\x00\x03\x01\x00\x01\x00\x03\x00\x02\x00\x00";
+    assert_eq!(list, rules);
+}
+
+#[test]
+fn examples_are_made_from_their_texts_and_dumped() {
+    for file in examples() {
+        let stored = fs::read(&file).unwrap();
+        let text = fs::read(file.with_extension("txt")).expect("each list has its text");
+        assert_eq!(make(&text).as_ref(), Ok(&stored), "{}", file.display());
+        assert_eq!(assert_told(&stored), None);
+    }
+}
+
+#[test]
+fn accepted_lists_come_back_as_their_own_bytes() {
+    let mut random = Random::new(1);
+    for _ in 0..ROUNDS {
+        let list = lawful_list(&mut random);
+        assert_eq!(assert_told(&list), None);
+    }
+}
+
+#[test]
+fn lists_cut_at_any_byte_are_dumped_up_to_the_cut() {
+    let list = make(EACH_KIND.as_bytes()).unwrap();
+    let starts = places(EACH_KIND);
+    for length in 0..list.len() {
+        let cut = &list[..length];
+        assert_eq!(assert_told(cut), Some(Refusal::CutShort));
+        // The records that end inside the cut are shown, and no more.
+        let ends = starts.iter().skip(1).filter(|&&end| end <= length);
+        assert_eq!(places(&dump(cut).text).len(), ends.count());
+    }
+}
+
+#[test]
+fn a_wrong_kind_ends_the_dump_at_any_record() {
+    let list = make(EACH_KIND.as_bytes()).unwrap();
+    let starts = places(EACH_KIND);
+    for (before, &place) in starts.iter().enumerate().skip(1) {
+        let mut damaged = list.clone();
+        damaged[place] = 7;
+        assert_eq!(assert_told(&damaged), Some(Refusal::UnknownKind));
+        let dumped = dump(&damaged);
+        assert_eq!(places(&dumped.text), starts[..before]);
+        let last = format!("# refused 4 at {place}: the record is of an unknown kind\n");
+        assert!(dumped.text.ends_with(&last), "{}", dumped.text);
+    }
+}
+
+#[test]
+fn damaged_lists_tell_the_refusal_of_their_check() {
+    let mut random = Random::new(2);
+    let mut seen = [0_u32; 13];
+    for _ in 0..10 * ROUNDS {
+        let mut list = any_list(&mut random);
+        damage(&mut random, &mut list);
+        let refusal = assert_told(&list);
+        seen[refusal.map_or(0, |refusal| refusal.number() as usize)] += 1;
+    }
+    // Every refusal of a list but that of its length, and lists that took no harm.
+    assert!(seen[..12].iter().all(|&count| count > 10), "{seen:?}");
+}
+
+#[test]
+fn bytes_behind_the_end_are_not_shown() {
+    let list = make(b"page 2 2 0\nend\n").unwrap();
+    let longer = [&list[..], &[2, 9]].concat();
+    let shown = format!(
+        "{:<28} # at 0\n{:<28} # at 10\n# refused 6 at 11: bytes follow the end record\n",
+        "page 2 2 0", "end"
+    );
+    assert_eq!(dump(&longer).text, shown);
+}
+
+#[test]
+fn a_list_may_have_65536_bytes_and_no_more() {
+    // 10 bytes of header, 7,279 lines of 9, seven levels of 2, and the end record.
+    let head = "page 1 1 0\n".to_string() + &"exact 0 0 1 1\n".repeat(7_279);
+    let whole = head.clone() + &"level 1\n".repeat(7) + "end\n";
+    let list = make(whole.as_bytes()).unwrap();
+    assert_eq!(list.len(), LONGEST_LIST);
+    assert_eq!(assert_told(&list), None);
+
+    let longer = head + &"level 1\n".repeat(8) + "end\n";
+    let reason = "too few bytes are left in the list, which has at most 65,536";
+    assert_eq!(wrong(&longer), format!("line 7288: refused 22: {reason}"));
+
+    let too_long = [&list[..], &[0]].concat();
+    let told = "# refused 12 at 0: the list has more than 65,536 bytes\n";
+    assert_eq!(dump(&too_long).text, told);
+}
+
+#[test]
+fn blanks_comments_and_carriage_returns_are_passed_over() {
+    let plain = make(b"page 4 3 0\nlevel 7\nend\n");
+    let dressed = b"# first\r\n\r\n\tpage  4 3\t0#zero\r\n \n level 7 # 8\r\nend# \xFF\n\n#end\n";
+    assert_eq!(make(dressed), plain);
+    assert!(plain.is_ok());
+}
+
+#[test]
+fn wrong_lines_are_told_by_their_number() {
+    let record = "a record (clip, level, exact, approximate, disc, ring or end)";
+    let rows = [
+        (
+            "",
+            "line 1: expected page W H BACKGROUND, found the end of the text",
+        ),
+        (
+            "\n# none\n\n",
+            "line 4: expected page W H BACKGROUND, found the end of the text",
+        ),
+        (
+            "level 3",
+            "line 1: expected page W H BACKGROUND, found level 3",
+        ),
+        (
+            "page 4 3",
+            "line 1: expected page W H BACKGROUND, found page 4 3",
+        ),
+        (
+            "page 4 3 256",
+            "line 1: expected page W H BACKGROUND, found page 4 3 256: 256 does not fit BACKGROUND",
+        ),
+        (
+            "page 0 3 0",
+            "line 1: refused 3: the width or height of the page is outside 1 to 1,024",
+        ),
+        (
+            "INK\u{1}\u{0}",
+            "line 1: expected page W H BACKGROUND, found INK??",
+        ),
+    ];
+    for (text, told) in rows {
+        assert_eq!(wrong(text), told);
+    }
+
+    let rows = [
+        ("exact 1 1 3", "expected exact X Y X Y, found exact 1 1 3"),
+        (
+            "exact 1 1 3 2 5",
+            "expected exact X Y X Y, found exact 1 1 3 2 5",
+        ),
+        (
+            "exact 1 1 3 +2",
+            "expected exact X Y X Y, found exact 1 1 3 +2",
+        ),
+        (
+            "exact 1 1 3 2.5",
+            "expected exact X Y X Y, found exact 1 1 3 2.5",
+        ),
+        (
+            "approximate 1 -32769 3 2",
+            "expected approximate X Y X Y, found approximate 1 -32769 3 2: -32769 does not fit Y",
+        ),
+        (
+            "approximate 1 1 4096 2",
+            "refused 7: a coordinate is outside -4,096 to 4,095",
+        ),
+        ("exact 1 2 1 2", "refused 9: the ends of the line coincide"),
+        ("clip 0 0 1", "expected clip X Y X Y, found clip 0 0 1"),
+        (
+            "clip 0 -1 1 1",
+            "expected clip X Y X Y, found clip 0 -1 1 1: -1 does not fit Y",
+        ),
+        (
+            "clip 0 0 5 3",
+            "refused 8: the clip is out of order or off the page",
+        ),
+        ("level", "expected level LEVEL, found level"),
+        (
+            "level 256",
+            "expected level LEVEL, found level 256: 256 does not fit LEVEL",
+        ),
+        ("disc 1 1", "expected disc X Y RADIUS, found disc 1 1"),
+        ("disc 1 1 256", "refused 10: the radius is 0 or above 255"),
+        (
+            "disc 1 1 65536",
+            "expected disc X Y RADIUS, found disc 1 1 65536: 65536 does not fit RADIUS",
+        ),
+        (
+            "ring 1 1 5",
+            "expected ring X Y RADIUS WIDTH, found ring 1 1 5",
+        ),
+        (
+            "ring 1 1 5 6",
+            "refused 11: the width of the ring is 0 or above its radius",
+        ),
+        ("end 0", "expected end, found end 0"),
+    ];
+    for (line, told) in rows {
+        let text = format!("page 4 3 0  # a page\n\n{line}  # wrong\nend\n");
+        assert_eq!(wrong(&text), format!("line 3: {told}"));
+    }
+
+    for line in ["page 4 3 0", "Level 3", "circle 1 1 5", "3"] {
+        let text = format!("page 4 3 0\n{line}\nend\n");
+        assert_eq!(
+            wrong(&text),
+            format!("line 2: expected {record}, found {line}")
+        );
+    }
+    assert_eq!(
+        wrong("page 4 3 0\nend\n\nend\n"),
+        "line 4: expected nothing behind end, found end"
+    );
+    assert_eq!(
+        wrong("page 4 3 0\nlevel 3\n"),
+        "line 3: expected end as the last record, found the end of the text"
+    );
+    let long = format!("page 4 3 0\nlevel {}\nend\n", "9".repeat(80));
+    assert!(wrong(&long).contains("9999 ..: 9999"), "{}", wrong(&long));
+}
