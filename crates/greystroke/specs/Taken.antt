@@ -1,4 +1,4 @@
--- The numbers of C as the library takes them. What 16 bits do not hold becomes a number that is refused.
+-- The numbers of C as the library takes them: what 16 bits do not hold becomes a number that is refused (R8.1).
 use mathlib.Core.Bool.{Bool, true, false, cond, _||_}
 use mathlib.Core.List.{List}
 use Prim.Native.Nat.{ℕ, min}
@@ -38,23 +38,23 @@ clipOf c = record { x0 = edgeOf (c .x0); y0 = edgeOf (c .y0); x1 = edgeOf (c .x1
 
 -- ---- a shape by its numbers
 
-abbrev pub numberAt : List ℤ → ℕ → ℤ
-numberAt ns i = getD ns i (pos 0)
+abbrev pub givenNumber : List ℤ → ℕ → ℤ
+givenNumber ns i = getD ns i (pos 0)
 
-abbrev pub coordinateAt : List ℤ → ℕ → ℤ
-coordinateAt ns i = coordinateOf (numberAt ns i)
+abbrev pub givenCoordinate : List ℤ → ℕ → ℤ
+givenCoordinate ns i = coordinateOf (givenNumber ns i)
 
-abbrev pub measureAt : List ℤ → ℕ → ℕ
-measureAt ns i = measureOf (numberAt ns i)
+abbrev pub givenMeasure : List ℤ → ℕ → ℕ
+givenMeasure ns i = measureOf (givenNumber ns i)
 
 abbrev pub lineOf : Bool → List ℤ → Line
-lineOf exact ns = record { exact = exact; x0 = coordinateAt ns 0; y0 = coordinateAt ns 1; x1 = coordinateAt ns 2; y1 = coordinateAt ns 3 }
+lineOf exact ns = record { exact = exact; x0 = givenCoordinate ns 0; y0 = givenCoordinate ns 1; x1 = givenCoordinate ns 2; y1 = givenCoordinate ns 3 }
 
 abbrev pub discOf : List ℤ → Disc
-discOf ns = record { x = coordinateAt ns 0; y = coordinateAt ns 1; radius = measureAt ns 2 }
+discOf ns = record { x = givenCoordinate ns 0; y = givenCoordinate ns 1; radius = givenMeasure ns 2 }
 
 abbrev pub ringOf : List ℤ → Ring
-ringOf ns = record { x = coordinateAt ns 0; y = coordinateAt ns 1; radius = measureAt ns 2; width = measureAt ns 3 }
+ringOf ns = record { x = givenCoordinate ns 0; y = givenCoordinate ns 1; radius = givenMeasure ns 2; width = givenMeasure ns 3 }
 
 -- the shape of a kind by its numbers; a number of no kind is unknown
 abbrev pub takenBy : ℕ → List ℤ → Taken

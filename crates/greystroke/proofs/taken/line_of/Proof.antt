@@ -2,7 +2,7 @@
 use mathlib.Core.Path.{_∙_}
 use mir.Syntax.{w16, w32}
 use Rattle.shapes.proofs.Limits.{kept}
-use Rattle.greystroke.specs.Taken.{numberAt}
+use Rattle.greystroke.specs.Taken.{givenNumber}
 use borrow.Author.Needs.{needs}
 use Rattle.greystroke.proofs.taken.line_of.Statement.{statement}
 use Rattle.greystroke.proofs.taken.line_of.Tie as tie
@@ -17,10 +17,10 @@ returns c =
     let x1 = kept w16 _ (three .coordinate3 .ok) ∙ three .coordinate3 .ensures in
     let y1 = kept w16 _ (c .coordinate4 .ok) ∙ c .coordinate4 .ensures in
     let ns = one .before .before .args .t2 in
-    let a = kept w32 (numberAt ns 0) (one .before .coordinate-arg .given) in
-    let b = kept w32 (numberAt ns 1) (two .before .coordinate-arg2 .given) in
-    let d = kept w32 (numberAt ns 2) (three .before .coordinate-arg3 .given) in
-    let e = kept w32 (numberAt ns 3) (c .before .coordinate-arg4 .given) in
+    let a = kept w32 (givenNumber ns 0) (one .before .coordinate-arg .given) in
+    let b = kept w32 (givenNumber ns 1) (two .before .coordinate-arg2 .given) in
+    let d = kept w32 (givenNumber ns 2) (three .before .coordinate-arg3 .given) in
+    let e = kept w32 (givenNumber ns 3) (c .before .coordinate-arg4 .given) in
     rw (x0, y0, x1, y1, a, b, d, e)
 
 pub line-of-spec : {M : Type 1} → statement M

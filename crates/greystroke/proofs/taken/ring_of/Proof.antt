@@ -2,7 +2,7 @@
 use mathlib.Core.Path.{_∙_}
 use mir.Syntax.{w16, w32}
 use Rattle.shapes.proofs.Limits.{kept}
-use Rattle.greystroke.specs.Taken.{numberAt}
+use Rattle.greystroke.specs.Taken.{givenNumber}
 use borrow.Author.Needs.{needs}
 use Rattle.greystroke.proofs.taken.ring_of.Statement.{statement}
 use Rattle.greystroke.proofs.taken.ring_of.Tie as tie
@@ -15,10 +15,10 @@ returns c =
     let x = kept w16 _ (one .coordinate .ok) ∙ one .coordinate .ensures in
     let y = kept w16 _ (two .coordinate2 .ok) ∙ two .coordinate2 .ensures in
     let ns = one .before .before .args .t1 in
-    let a = kept w32 (numberAt ns 0) (one .before .coordinate-arg .given) in
-    let b = kept w32 (numberAt ns 1) (two .before .coordinate-arg2 .given) in
-    let d = kept w32 (numberAt ns 2) (three .before .measure-arg .given) in
-    let e = kept w32 (numberAt ns 3) (c .before .measure-arg2 .given) in
+    let a = kept w32 (givenNumber ns 0) (one .before .coordinate-arg .given) in
+    let b = kept w32 (givenNumber ns 1) (two .before .coordinate-arg2 .given) in
+    let d = kept w32 (givenNumber ns 2) (three .before .measure-arg .given) in
+    let e = kept w32 (givenNumber ns 3) (c .before .measure-arg2 .given) in
     rw (x, y, three .measure .ensures, c .measure2 .ensures, a, b, d, e)
 
 pub ring-of-spec : {M : Type 1} → statement M
