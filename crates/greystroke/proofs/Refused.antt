@@ -1,14 +1,17 @@
 -- A number that is taken is refused where the given one is: what 16 bits do not hold stands for nothing lawful.
-use mathlib.Core.Path.{_≡_, refl}
-use mathlib.Core.Bool.{Bool, true, false, _&&_, _||_}
+use mathlib.Core.Path.{_≡_, refl, sym, _∙_, ap, ap₂}
+use mathlib.Core.Bool.{Bool, true, false, not, cond, _&&_, _||_}
 use mathlib.Core.Logic.{⊎-elim}
 use Prim.Native.Nat.{ℕ, min, _≤_, _<_}
 use native.Mathlib.Omega.{arith}
-use borrow.Author.Tests.{lt-ltb, le-ltb, lt-leb}
+use borrow.Author.Tests.{lt-ltb, le-ltb, lt-leb, ltb-false}
 use lib.Dec.{ltb, leb}
 use lib.IntN.{ℤ, pos, negsuc}
 use Rattle.numbers.proofs.Order.{lt-or-le}
-use Rattle.shapes.specs.Limits.{outside}
+use Rattle.shapes.specs.Limits.{first, offSize, outside, offRange, offPage, offRadius, refusalsOf, sizeRefusal, clipRefusal, shapeRefusal}
+use Rattle.shapes.specs.declared.Shape.{Shape}
+use Rattle.shapes.specs.declared.Shape.the-variants.{Line as line, Disc as disc, Ring as ring}
+use Rattle.shapes.proofs.Limits.{or-clear}
 use Rattle.greystroke.specs.Taken.{coordinateOf, sideOf, measureOf, edgeOf}
 
 -- 7: a coordinate
@@ -19,6 +22,21 @@ coordinate-refused (pos n) =
 coordinate-refused (negsuc n) =
     ⊎-elim (λ h. rw (lt-ltb 32767 n h, lt-leb n 4095 (omega (arith, h)))) (λ h. rw (le-ltb 32767 n h)) (lt-or-le 32767 n)
 
+inside-same : (z : ℤ) → outside z ≡ false → coordinateOf z ≡ z
+unfolding coordinateOf
+inside-same (pos n) e = ⊎-elim far (λ h. rw (le-ltb 32767 n h)) (lt-or-le 32767 n)
+  where
+    far : 32767 < n → coordinateOf (pos n) ≡ pos n
+    far h =
+        let f = rw (lt-leb n 4095 (omega (arith, h))) at e in
+        absurd (let q : _≡_ {A = ℕ} 0 1 = cc f in omega arith)
+inside-same (negsuc n) e = ⊎-elim far (λ h. rw (le-ltb 32767 n h)) (lt-or-le 32767 n)
+  where
+    far : 32767 < n → coordinateOf (negsuc n) ≡ negsuc n
+    far h =
+        let f = rw (lt-leb n 4095 (omega (arith, h))) at e in
+        absurd (let q : _≡_ {A = ℕ} 0 1 = cc f in omega arith)
+
 -- 3, 10, 11: W or H, a radius and a width, with the greatest that is lawful
 pub side-refused : (most n : ℕ) → most ≤ 65535 → (ltb (sideOf n) 1 || ltb most (sideOf n)) ≡ (ltb n 1 || ltb most n)
 unfolding sideOf
@@ -27,6 +45,10 @@ side-refused most n k =
     (λ h. rw (lt-ltb 65535 n h, le-ltb n 1 (omega (arith, h)), lt-ltb most n (omega (arith, h))))
     (λ h. rw (le-ltb 65535 n h))
     (lt-or-le 65535 n)
+
+side-same : (n : ℕ) → n ≤ 65535 → sideOf n ≡ n
+unfolding sideOf
+side-same n h = rw (le-ltb 65535 n h)
 
 pub measure-refused : (most n : ℕ) → most ≤ 65535 → (ltb (measureOf (pos n)) 1 || ltb most (measureOf (pos n))) ≡ (ltb n 1 || ltb most n)
 unfolding measureOf
@@ -57,3 +79,78 @@ edges-refused w a b k = ⊎-elim off on (lt-or-le w b)
         (λ g. rw (lt-leb a b g, lt-leb (min a 65535) b (omega (arith, g, h, k))))
         (λ g. let f : min a 65535 ≡ a = omega (arith, g, h, k) in rw f)
         (lt-or-le b a))
+
+-- ---- shapes: what is refused of the shape that is taken is refused of the shape with the given numbers
+
+-- where a number is told of both or of neither, only the rest is left to compare
+told : (k : ℕ) (a b : Bool) (n m : ℕ) → a ≡ b → (b ≡ false → n ≡ m) → cond a k n ≡ cond b k m
+told k true true n m e f = refl
+told k true false n m e f = absurd (let q : _≡_ {A = ℕ} 0 1 = cc in omega arith)
+told k false true n m e f = absurd (let q : _≡_ {A = ℕ} 0 1 = cc in omega arith)
+told k false false n m e f = f refl
+
+module _ (exact : Bool) (a b c d : ℤ) where
+  abbrev taken : Shape
+  taken = line (record { exact = exact; x0 = coordinateOf a; y0 = coordinateOf b; x1 = coordinateOf c; y1 = coordinateOf d })
+
+  abbrev given : Shape
+  given = line (record { exact = exact; x0 = a; y0 = b; x1 = c; y1 = d })
+
+  pub line-refused : shapeRefusal taken ≡ shapeRefusal given
+  unfolding shapeRefusal offRange refusalsOf
+  line-refused =
+      let range : offRange taken ≡ offRange given = rw (coordinate-refused a, coordinate-refused b, coordinate-refused c, coordinate-refused d) in
+      told 7 (offRange taken) (offRange given) (first (refusalsOf taken)) (first (refusalsOf given)) range (λ e.
+      let p = or-clear (outside a || outside b || outside c) (outside d) e in
+      let q = or-clear (outside a || outside b) (outside c) (p .0) in
+      let r = or-clear (outside a) (outside b) (q .0) in
+      rw (inside-same a (r .0), inside-same b (r .1), inside-same c (q .1), inside-same d (p .1)))
+
+pub disc-refused : (x y : ℤ) (n : ℕ)
+    → shapeRefusal (disc (record { x = coordinateOf x; y = coordinateOf y; radius = measureOf (pos n) }))
+    ≡ shapeRefusal (disc (record { x = x; y = y; radius = n }))
+unfolding shapeRefusal offRange refusalsOf
+disc-refused x y n = rw (coordinate-refused x, coordinate-refused y, measure-refused 255 n (omega arith))
+
+-- 11 of a ring
+abbrev widthTold : ℕ → ℕ → ℕ
+widthTold r w = cond (ltb w 1 || ltb r w) 11 0
+
+pub ring-refused : (x y : ℤ) (n m : ℕ)
+    → shapeRefusal (ring (record { x = coordinateOf x; y = coordinateOf y; radius = measureOf (pos n); width = measureOf (pos m) }))
+    ≡ shapeRefusal (ring (record { x = x; y = y; radius = n; width = m }))
+unfolding shapeRefusal offRange refusalsOf measureOf
+ring-refused x y n m =
+    rw (coordinate-refused x, coordinate-refused y)
+    (ap (λ (k : ℕ). cond (outside x || outside y) 7 k)
+    (told 10 (offRadius (sideOf n)) (offRadius n) (widthTold (sideOf n) (sideOf m)) (widthTold n m) (side-refused 255 n (omega arith)) (λ e.
+    let h = ltb-false 255 n (or-clear (ltb n 1) (ltb 255 n) e .1) in
+    rw (side-same n (omega (arith, h)), side-refused n m (omega (arith, h))))))
+
+-- ---- sizes and clips
+
+or-assoc : (p a b : Bool) → (p || a || b) ≡ (p || (a || b))
+or-assoc true a b = refl
+or-assoc false a b = refl
+
+and-assoc : (p a b : Bool) → (p && a && b) ≡ (p && (a && b))
+and-assoc true a b = refl
+and-assoc false a b = refl
+
+pub size-refused : (w h : ℕ) → sizeRefusal (sideOf w) (sideOf h) ≡ sizeRefusal w h
+unfolding sizeRefusal offSize
+size-refused w h =
+    ap (λ (t : Bool). cond t 3 0)
+    (or-assoc (ltb (sideOf w) 1 || ltb 1024 (sideOf w)) (ltb (sideOf h) 1) (ltb 1024 (sideOf h))
+    ∙ ap₂ _||_ (side-refused 1024 w (omega arith)) (side-refused 1024 h (omega arith))
+    ∙ sym (or-assoc (ltb w 1 || ltb 1024 w) (ltb h 1) (ltb 1024 h)))
+
+pub clip-refused : (w h x0 y0 x1 y1 : ℕ) → w ≤ 1024 → h ≤ 1024
+    → clipRefusal w h (record { x0 = edgeOf x0; y0 = edgeOf y0; x1 = edgeOf x1; y1 = edgeOf y1 })
+    ≡ clipRefusal w h (record { x0 = x0; y0 = y0; x1 = x1; y1 = y1 })
+unfolding clipRefusal offPage
+clip-refused w h x0 y0 x1 y1 k j =
+    ap (λ (t : Bool). cond (not t) 8 0)
+    (and-assoc (leb (edgeOf x0) (edgeOf x1) && leb (edgeOf x1) w) (leb (edgeOf y0) (edgeOf y1)) (leb (edgeOf y1) h)
+    ∙ ap₂ _&&_ (edges-refused w x0 x1 k) (edges-refused h y0 y1 j)
+    ∙ sym (and-assoc (leb x0 x1 && leb x1 w) (leb y0 y1) (leb y1 h)))

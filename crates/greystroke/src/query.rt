@@ -35,6 +35,7 @@ fn coverage_answer(answer: coverage::Answer) -> CoverageAnswer
     }
 }
 
+// The query of a known shape.
 fn query(shape: Shape, x: i32, y: i32) -> CoverageAnswer
     ensures { λ r. ⌜ r ≡ answered (coverageAsked (Taken.Known shape) x y) ⌝ }
 {

@@ -34,6 +34,7 @@ fn draw_answer(outcome: draw::Outcome) -> DrawAnswer
     }
 }
 
+// A known shape is drawn so.
 fn draw(page: &mut [u8], w: u32, h: u32, clip: GivenClip, level: u8, shape: Shape) -> DrawAnswer
     ensures { λ r. ⌜ r ≡ drawn (shapeDrawn w h (length (now (page .entry))) clip (Taken.Known shape)) ⌝ }
     ensures { λ r. ⌜ now (page .exit) ≡ pageDrawn w h clip level (Taken.Known shape) (now (page .entry)) ⌝ }
