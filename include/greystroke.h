@@ -118,7 +118,7 @@ struct greystroke_draw_answer {
 };
 
 /* Blends a shape at a level into the pixels of a page of w by h that the clip keeps (R6.1).
- * Refused, in this order: 4 where the kind is no shape, then 3, 21, 8, 7, 9, 10, 11 (R8.4). */
+ * Refused, in this order: 4 where the kind is no shape, then 3, 21, 8, 7, 9, 10, 11 (R8.4, R8.7). */
 struct greystroke_draw_answer greystroke_draw_shape(
     uint8_t *page, size_t page_length, uint32_t w, uint32_t h, struct greystroke_clip clip,
     uint8_t level, struct greystroke_shape shape);
