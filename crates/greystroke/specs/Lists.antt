@@ -1,4 +1,4 @@
--- The answers about drawing lists in the form that C takes.
+-- The answers about drawing lists in the form that C takes (R7.6, R7.7, R8.3).
 use mathlib.Core.Bool.{cond}
 use mathlib.Core.List.{List, [], _∷_}
 use Prim.Native.Nat.{ℕ}

@@ -1,4 +1,4 @@
--- A whole list on a lent page, in the form that C takes.
+-- A whole list on a lent page, in the form that C takes (R10.3).
 use Rattle.drawing.specs.declared.Answer.{Answer}
 use Rattle.drawing.specs.declared.Answer.the-variants.{Drawn, Refused}
 use Rattle.greystroke.specs.declared.whole.ListAnswer.{ListAnswer}

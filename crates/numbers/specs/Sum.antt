@@ -1,4 +1,4 @@
--- Sums over a range, and over a list.
+-- Sums over a range, and over a list (R6.4).
 use mathlib.Core.List.{List, [], _∷_}
 use Prim.Native.Nat.{ℕ, zero, suc, _+_}
 
