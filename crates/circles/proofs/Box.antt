@@ -1,10 +1,11 @@
 -- The box of a ring: a clip that is cut down to it draws the same.
 use mathlib.Core.Path.{_≡_, fun-ext}
-use mathlib.Core.Logic.{_⊎_, inl, inr}
+use mathlib.Core.Logic.{inl, inr}
 use mathlib.Core.List.{List}
 use Prim.Native.Nat.{ℕ, _+_, _-_, _≤_, _<_}
 use native.Mathlib.Nat.{le-trans}
 use native.Mathlib.Omega.{arith}
+use lib.ListN.{length}
 use Rattle.numbers.specs.inner.Offset.{origin, offsetMost}
 use Rattle.shapes.specs.Limits.{radiusMost}
 use Rattle.page.specs.inner.Paint.{inView, Lawful, Drawn}
@@ -14,9 +15,9 @@ use Rattle.page.proofs.Drawn.{drawn-none, drawn-ext}
 use Rattle.coverage.specs.Circle.{heightOf}
 use Rattle.coverage.specs.inner.Circle.{apart}
 use Rattle.coverage.proofs.Height.{height-most, height-falls, height-rises}
-use Rattle.circles.specs.inner.Row.{at, between, betweenOn, Heights, Nested, Reached, Ready, boxed}
-use Rattle.circles.specs.declared.rows.Ring.{Ring}
-use Rattle.circles.proofs.Chords.{chords-far, heights-wider}
+use Rattle.circles.specs.inner.Row.{at, betweenOn, Heights, Circles, Reached, Placed, boxed}
+use Rattle.circles.specs.declared.Ring.{Ring}
+use Rattle.circles.proofs.Chords.{between-far}
 use Rattle.page.proofs.Clamp.{clamped-low, clamped-high, clamped-rises, before-clamped, from-clamped, between-clamped}
 use Rattle.circles.proofs.Apart.{apart-near, apart-left, apart-right}
 
@@ -29,20 +30,38 @@ heights-of R = record { falls = height-falls R; most = height-most R }
 pub held : (hs : List ℕ) (R : ℕ) → ((k : ℕ) → at hs k ≡ heightOf R k) → at hs ≡ heightOf R
 held hs R h = fun-ext h
 
-pub nested-of : (R r : ℕ) → r ≤ R → R ≤ radiusMost → Nested (heightOf R) (heightOf r) r
-nested-of R r h k =
-    record { outer = heights-wider k (heights-of R); inner = heights-of r; small = omega arith; within = λ j. height-rises r R j h }
-
--- nothing is covered from the radius on
-between-far : (R : ℕ) (Z : ℕ → ℕ) (a b : ℕ) → (R ≤ a) ⊎ (R ≤ b) → between (heightOf R) Z a b ≡ 0
-unfolding between
-between-far R Z a b (inl h) = omega (arith, chords-far (heights-of R) a b (omega arith))
-between-far R Z a b (inr h) = omega (arith, chords-far (heights-of R) a b (omega arith))
+-- the arrays of a ring's two circles
+pub circles-of : (ring : Ring) (outer inner : List ℕ) → ring .hole ≤ ring .radius → ring .radius ≤ radiusMost
+    → at outer ≡ heightOf (ring .radius)
+    → at inner ≡ heightOf (ring .hole)
+    → ring .radius < length outer
+    → ring .hole < length inner
+    → Circles outer inner ring
+circles-of ring outer inner h k e f p q =
+    record {
+      nested =
+          rw (e, f)
+          (record {
+            outer = heights-of (ring .radius);
+            inner = heights-of (ring .hole);
+            least = h;
+            most = k;
+            within = λ j. height-rises (ring .hole) (ring .radius) j h;
+          });
+      outer-held = p;
+      inner-held = q;
+    }
 
 -- ---- the box
 
-module _ (view : View) (ring : Ring) (R : ℕ) {size : ℕ} (law : Lawful view size) where
-  boxed-lawful : Lawful (boxed view ring R) size
+module _ (view : View) (ring : Ring) {size : ℕ} (law : Lawful view size) where
+  abbrev R : ℕ
+  R = ring .radius
+
+  abbrev box : View
+  box = boxed view ring
+
+  boxed-lawful : Lawful box size
   boxed-lawful =
       record {
         w-least = law .w-least;
@@ -55,45 +74,39 @@ module _ (view : View) (ring : Ring) (R : ℕ) {size : ℕ} (law : Lawful view s
         y-most = le-trans (clamped-high (view .y0) (view .y1) (ring .cy + R)) (law .y-most);
       }
 
-  boxed-near : R ≤ radiusMost → Reached (boxed view ring R) ring
-  boxed-near h =
+  boxed-near : Reached box ring
+  boxed-near =
       record {
         columns = λ x p q. near (ring .cx) (x + origin) (between-clamped _ _ (ring .cx - R) (ring .cx + R) x (law .x-order) p q);
         rows = λ y p q. near (ring .cy) (y + origin) (between-clamped _ _ (ring .cy - R) (ring .cy + R) y (law .y-order) p q);
       }
     where
-      near : (c x : ℕ) → (c - R ≤ x) × (x < c + R) → apart c x ≤ radiusMost
-      near c x b = omega (arith, apart-near c R x (b .0) (b .1))
+      near : (c x : ℕ) → (c - R ≤ x) × (x < c + R) → apart c x < R
+      near c x b = apart-near c R x (b .0) (b .1)
 
-  pub boxed-ready : ring .cx ≤ offsetMost → ring .hole ≤ R → R ≤ radiusMost
-      → Ready (boxed view ring R) size ring (heightOf R) (heightOf (ring .hole))
-  boxed-ready c h k = record { lawful = boxed-lawful; near = boxed-near k; nested = nested-of R (ring .hole) h k; centre = c }
+  pub boxed-placed : ring .cx ≤ offsetMost → ring .cy ≤ offsetMost → Placed box size ring
+  boxed-placed c d = record { lawful = boxed-lawful; near = boxed-near; across = c; down = d }
 
   module _ (Z : ℕ → ℕ) where
-    boxed-same : (x y : ℕ)
-        → inView (boxed view ring R) (betweenOn (heightOf R) Z ring) x y ≡ inView view (betweenOn (heightOf R) Z ring) x y
+    boxed-same : (x y : ℕ) → inView box (betweenOn (heightOf R) Z ring) x y ≡ inView view (betweenOn (heightOf R) Z ring) x y
     boxed-same =
-        let box = boxed view ring R in
         clip-shrink (view .x0) (view .y0) (view .x1) (view .y1) (box .x0) (box .y0) (box .x1) (box .y1) (betweenOn (heightOf R) Z ring)
         (clamped-low _ _ _ (law .x-order)) (clamped-low _ _ _ (law .y-order)) (clamped-high _ _ _) (clamped-high _ _ _) none
       where
-        none : (x y : ℕ) → Inside (view .x0) (view .y0) (view .x1) (view .y1) x y
-            → Outside (boxed view ring R .x0) (boxed view ring R .y0) (boxed view ring R .x1) (boxed view ring R .y1) x y
+        none : (x y : ℕ) → Inside (view .x0) (view .y0) (view .x1) (view .y1) x y → Outside (box .x0) (box .y0) (box .x1) (box .y1) x y
             → betweenOn (heightOf R) Z ring x y ≡ 0
-        none x y i (left-of h) = between-far R Z _ _ (inl (apart-left (ring .cx) R (x + origin) (before-clamped _ _ _ x (i .left) h)))
-        none x y i (right-of h) = between-far R Z _ _ (inl (apart-right (ring .cx) R (x + origin) (from-clamped _ _ _ x (i .right) h)))
-        none x y i (above h) = between-far R Z _ _ (inr (apart-left (ring .cy) R (y + origin) (before-clamped _ _ _ y (i .top) h)))
-        none x y i (below h) = between-far R Z _ _ (inr (apart-right (ring .cy) R (y + origin) (from-clamped _ _ _ y (i .bottom) h)))
+        none x y i (left-of h) = between-far (heights-of R) Z _ _ (inl (apart-left (ring .cx) R (x + origin) (before-clamped _ _ _ x (i .left) h)))
+        none x y i (right-of h) = between-far (heights-of R) Z _ _ (inl (apart-right (ring .cx) R (x + origin) (from-clamped _ _ _ x (i .right) h)))
+        none x y i (above h) = between-far (heights-of R) Z _ _ (inr (apart-left (ring .cy) R (y + origin) (before-clamped _ _ _ y (i .top) h)))
+        none x y i (below h) = between-far (heights-of R) Z _ _ (inr (apart-right (ring .cy) R (y + origin) (from-clamped _ _ _ y (i .bottom) h)))
 
     pub boxed-drawn : {ink : ℕ → ℕ → ℕ} {l m : List ℕ} {t : ℕ}
-        → Drawn (view .w) (view .h) ink (inView (boxed view ring R) (betweenOn (heightOf R) Z ring)) l m t
+        → Drawn (view .w) (view .h) ink (inView box (betweenOn (heightOf R) Z ring)) l m t
         → Drawn (view .w) (view .h) ink (inView view (betweenOn (heightOf R) Z ring)) l m t
     boxed-drawn = drawn-ext (inView view (betweenOn (heightOf R) Z ring)) boxed-same
 
     -- where the clip does not meet the box, nothing is drawn
     pub boxed-empty : (ink : ℕ → ℕ → ℕ) (l : List ℕ)
-        → ((x y : ℕ) → Inside (boxed view ring R .x0) (boxed view ring R .y0) (boxed view ring R .x1) (boxed view ring R .y1) x y → ⊥)
+        → ((x y : ℕ) → Inside (box .x0) (box .y0) (box .x1) (box .y1) x y → ⊥)
         → Drawn (view .w) (view .h) ink (inView view (betweenOn (heightOf R) Z ring)) l l 0
     boxed-empty ink l none = boxed-drawn (drawn-none _ _ ink _ l (clip-zero _ _ _ _ _ (λ x y i. absurd (none x y i))))
-
--- ---- discs and rings

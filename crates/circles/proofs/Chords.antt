@@ -1,10 +1,9 @@
 -- Laws of the chord rule, for any heights that fall.
 use mathlib.Core.Path.{_≡_}
-use mathlib.Core.Logic.{⊎-elim}
+use mathlib.Core.Logic.{_⊎_, inl, inr, ⊎-elim}
 use Prim.Native.Nat.{ℕ, _+_, _-_, _*_, _≤_, _<_, min, max}
 use native.Mathlib.Nat.{add-le-add}
 use native.Mathlib.Omega.{arith}
-use Rattle.shapes.specs.Limits.{radiusMost}
 use Rattle.numbers.proofs.Order.{lt-or-le}
 use Rattle.coverage.specs.Circle.{chord, chords}
 use Rattle.coverage.proofs.Chord.{chords-rise, chords-le}
@@ -33,6 +32,11 @@ chords-far {Y} {R} hs a b h = far (Y (min a b)) (Y (min a b + 1)) (max a b) (hs 
 
 pub chords-none : {Y : ℕ → ℕ} → Heights Y 0 → (a b : ℕ) → chords Y a b ≡ 0
 chords-none hs a b = chords-far hs a b (omega arith)
+
+pub between-far : {Y : ℕ → ℕ} {R : ℕ} → Heights Y R → (Z : ℕ → ℕ) (a b : ℕ) → (R ≤ a) ⊎ (R ≤ b) → between Y Z a b ≡ 0
+unfolding between
+between-far hs Z a b (inl h) = omega (arith, chords-far hs a b (omega arith))
+between-far hs Z a b (inr h) = omega (arith, chords-far hs a b (omega arith))
 
 -- ---- one comparison tells a pixel that is whole, and one a pixel that is not covered
 
@@ -64,10 +68,10 @@ reach-order : {Y : ℕ → ℕ} {b i o : ℕ} → Reach Y b i o → i ≤ o
 reach-order {Y} {b} {i} {o} r = ⊎-elim (λ h. absurd (omega (arith, r .whole o h, r .clear o (omega arith)))) (λ h. h) (lt-or-le o i)
 
 -- the row does not meet the inner circle
-pub measured-solid : (Y Z : ℕ → ℕ) (hole b i o : ℕ) → Nested Y Z hole → hole ≤ b → o ≤ radiusMost → Reach Y b i o
-    → Measured Y Z b (record { hole = 0; inner = 0; whole = i; outer = o })
+pub measured-solid : (Y Z : ℕ → ℕ) (R hole b i o : ℕ) → Nested Y Z R hole → hole ≤ b → o ≤ R → Reach Y b i o
+    → Measured Y Z R b (record { hole = 0; inner = 0; whole = i; outer = o })
 unfolding between
-measured-solid Y Z hole b i o n far h r =
+measured-solid Y Z R hole b i o n far h r =
     let none : (a : ℕ) → chords Z a b ≡ 0 = λ a. chords-far (n .inner) a b (omega arith) in
     record {
       order = (omega arith, omega arith, reach-order r, h);
@@ -77,10 +81,10 @@ measured-solid Y Z hole b i o n far h r =
     }
 
 -- it does: the inner circle is nowhere wider than the outer one
-pub measured-hollow : (Y Z : ℕ → ℕ) (hole b i o j e : ℕ) → Nested Y Z hole → o ≤ radiusMost → Reach Y b i o → Reach Z b j e
-    → Measured Y Z b (record { hole = j; inner = min o e; whole = max (min o e) i; outer = o })
+pub measured-hollow : (Y Z : ℕ → ℕ) (R hole b i o j e : ℕ) → Nested Y Z R hole → o ≤ R → Reach Y b i o → Reach Z b j e
+    → Measured Y Z R b (record { hole = j; inner = min o e; whole = max (min o e) i; outer = o })
 unfolding between
-measured-hollow Y Z hole b i o j e n h r s =
+measured-hollow Y Z R hole b i o j e n h r s =
     let less : (a : ℕ) → chords Z a b ≤ chords Y a b = λ a. chords-rise Z Y a b (n .within) in
     let clear : (a : ℕ) → min o e ≤ a → chords Z a b ≡ 0 =
     λ a k. ⊎-elim (λ z. omega (arith, r .clear a (omega arith), less a)) (λ z. s .clear a (omega arith)) (lt-or-le a e) in

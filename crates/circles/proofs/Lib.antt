@@ -4,3 +4,4 @@ pub mod Apart
 pub mod Row
 pub mod Box
 pub mod Shape
+pub mod Mirrored

@@ -6,32 +6,38 @@ use Prim.Native.Nat.{ℕ, _+_, _-_, _≤_, _<_}
 use native.Mathlib.Omega.{arith}
 use lib.ListN.{length}
 use Rattle.numbers.specs.inner.Offset.{origin}
-use Rattle.page.specs.inner.Paint.{clipped, Drawn, clamped}
+use Rattle.page.specs.inner.Paint.{clipped, Lawful, Drawn, clamped}
+use Rattle.page.specs.inner.Ink.{inkOf}
 use Rattle.page.specs.declared.View.{View}
+use Rattle.page.proofs.Blend.{blend-whole}
 use Rattle.page.proofs.Clip.{clip-columns}
 use Rattle.page.proofs.Drawn.{drawn-join, drawn-length, drawn-row}
 use Rattle.coverage.specs.inner.Circle.{apart}
 use Rattle.circles.specs.inner.Row.{betweenOn, Ready, Measured, Band, RingDrawn, leftOf, rightOf}
-use Rattle.circles.specs.declared.rows.Ring.{Ring}
+use Rattle.circles.specs.declared.Ring.{Ring}
 use Rattle.circles.specs.declared.cover.Widths.{Widths}
 use Rattle.page.proofs.Clamp.{clamped-low, clamped-high, clamped-rises, before-clamped, from-clamped, between-clamped}
 use Rattle.circles.proofs.Apart.{apart-near, apart-left, apart-right}
 
 -- a page that was drawn on stands ready as before
-pub ready-after : {w h : ℕ} {ink n : ℕ → ℕ → ℕ} {l m : List ℕ} {t : ℕ} {view : View} {ring : Ring} {Y Z : ℕ → ℕ}
+pub ready-after : {w h : ℕ} {ink n : ℕ → ℕ → ℕ} {l m : List ℕ} {t : ℕ} {view : View} {ring : Ring} {outer inner : List ℕ}
     → Drawn w h ink n l m t
-    → Ready view (length l) ring Y Z
-    → Ready view (length m) ring Y Z
-ready-after {view = view} {ring} {Y} {Z} d = subst (λ (k : ℕ). Ready view k ring Y Z) (sym (drawn-length d))
+    → Ready view (length l) ring outer inner
+    → Ready view (length m) ring outer inner
+ready-after {view = view} {ring} {outer} {inner} d = subst (λ (k : ℕ). Ready view k ring outer inner) (sym (drawn-length d))
+
+-- a whole blend leaves the level
+pub whole-ink : (v u : ℕ) → inkOf v 512 512 u ≡ v
+whole-ink v u = blend-whole u v 512 (omega arith)
 
 -- a row whose widths are known
-module _ {Y Z : ℕ → ℕ} {view : View} {size : ℕ} {ring : Ring} {row : Widths} (y : ℕ)
-    (ready : Ready view size ring Y Z)
+module _ {Y Z : ℕ → ℕ} {view : View} {size : ℕ} (ring : Ring) {row : Widths} (y : ℕ)
+    (law : Lawful view size)
     (rows : (view .y0 ≤ y) × (y < view .y1))
-    (m : Measured Y Z (apart (ring .cy) (y + origin)) row)
+    (m : Measured Y Z (ring .radius) (apart (ring .cy) (y + origin)) row)
   where
     clip : view .x0 ≤ view .x1
-    clip = ready .lawful .x-order
+    clip = law .x-order
 
     rises : (c d : ℕ) → c ≤ d → clamped (view .x0) (view .x1) c ≤ clamped (view .x0) (view .x1) d
     rises = clamped-rises (view .x0) (view .x1)

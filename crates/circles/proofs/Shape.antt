@@ -14,7 +14,7 @@ use Rattle.coverage.specs.Circle.{heightOf, chords}
 use Rattle.coverage.specs.inner.OnPage.{shapeOn}
 use Rattle.coverage.proofs.Chord.{disc-drawn, ring-drawn}
 use Rattle.circles.specs.inner.Row.{between, betweenOn}
-use Rattle.circles.specs.declared.rows.Ring.{Ring as Circles}
+use Rattle.circles.specs.declared.Ring.{Ring as Circles}
 use Rattle.circles.proofs.Chords.{chords-none}
 use Rattle.circles.proofs.Box.{heights-of}
 

@@ -1,2 +1,3 @@
 -- The rows of discs and rings on a page.
 pub mod Row
+pub mod Mirrored

@@ -1,14 +1,17 @@
 // Discs and rings on a lent page.
+use coverage::circle::HEIGHTS;
+use numbers::ORIGIN;
 use numbers::less;
 use page::View;
 use page::clamp_offset;
-use rows::Ring;
 use rows::left_at;
 use rows::right_at;
 ghost use mathlib.Core.Path.{_≡_};
-ghost use Prim.Native.Nat.{_≤_};
+ghost use mathlib.Core.Bool.{_&&_};
+ghost use Prim.Native.Nat.{_+_, _≤_};
+ghost use lib.Dec.{leb};
 ghost use lib.ListN.{length};
-ghost use Rattle.numbers.specs.inner.Offset.{offsetMost};
+ghost use Rattle.numbers.specs.inner.Offset.{origin, offsetMost};
 ghost use Rattle.shapes.specs.Limits.{shapeRefusal, radiusMost};
 ghost use Rattle.shapes.specs.declared.Shape.the-variants.{Disc as asDisc, Ring as asRing};
 ghost use Rattle.coverage.specs.Circle.{heightOf};
@@ -16,42 +19,110 @@ ghost use Rattle.coverage.specs.Coverage.{drawnD};
 ghost use Rattle.coverage.specs.inner.OnPage.{shapeOn};
 ghost use Rattle.page.specs.inner.Ink.{inkOf};
 ghost use Rattle.page.specs.inner.Paint.{Lawful, DrawnIn};
-ghost use Rattle.circles.specs.inner.Row.{boxed, RingDrawn};
+ghost use Rattle.circles.specs.inner.Row.{at, boxed, smallMost, Placed, Ready, RingDrawn};
 
 mod cover; // cover.rt: coverage by the distances from the centre
+mod mirror; // mirror.rt: rows of which the clip has both sides
 mod rows; // rows.rt: rows drawn in stretches
 
-// The part of the clip that the box of a ring of this radius meets.
-fn box_of(view: View, ring: Ring, radius: u64) -> View
-    requires { ⌜ (ring .cx ≤ offsetMost) × (ring .cy ≤ offsetMost) × (radius ≤ radiusMost) ⌝ }
-    ensures { λ r. ⌜ r ≡ boxed view ring radius ⌝ }
+// The offsets of the centre, the radii of the two circles, and the level. A disc has a hole of radius 0.
+pub(crate) struct Ring {
+    pub cx: u64,
+    pub cy: u64,
+    pub radius: u64,
+    pub hole: u64,
+    pub level: u8,
+}
+
+// Circles up to this radius hold their heights in a short array.
+const SMALL_MOST: u64 = 32;
+
+const SMALL_HEIGHTS: usize = SMALL_MOST as usize + 2;
+
+// Whether lo to hi has all that is nearer than d to an offset c.
+pub(crate) fn encloses(lo: usize, hi: usize, c: u64, d: u64) -> bool
+    requires { ⌜ (lo ≤ 1024) × (hi ≤ 1024) × (c ≤ offsetMost) × (d ≤ radiusMost) ⌝ }
+    ensures { λ t. ⌜ t ≡ (leb (lo + origin + d) c && leb (c + d) (hi + origin)) ⌝ }
+{
+    if lo as u64 + ORIGIN + d <= c {
+        c + d <= hi as u64 + ORIGIN
+    } else {
+        false
+    }
+}
+
+// The part of the clip that the box of a ring meets.
+fn box_of(view: View, ring: Ring) -> View
+    requires { ⌜ (ring .cx ≤ offsetMost) × (ring .cy ≤ offsetMost) × (ring .radius ≤ radiusMost) ⌝ }
+    ensures { λ r. ⌜ r ≡ boxed view ring ⌝ }
 {
     View {
         w: view.w,
         h: view.h,
-        x0: left_at(view, ring, radius),
-        y0: clamp_offset(view.y0, view.y1, less(ring.cy, radius)),
-        x1: right_at(view, ring, radius),
-        y1: clamp_offset(view.y0, view.y1, ring.cy + radius),
+        x0: left_at(view, ring, ring.radius),
+        y0: clamp_offset(view.y0, view.y1, less(ring.cy, ring.radius)),
+        x1: right_at(view, ring, ring.radius),
+        y1: clamp_offset(view.y0, view.y1, ring.cy + ring.radius),
     }
 }
 
-// Draws what lies between the circle of this radius and the ring's hole.
-fn draw_between(page: &mut [u8], view: View, ring: Ring, radius: u64) -> u64
-    requires { ⌜ Lawful view (length (now page)) × (ring .cx ≤ offsetMost) × (ring .cy ≤ offsetMost) × (ring .hole ≤ radius) × (radius ≤ radiusMost) ⌝ }
-    ensures { λ t. ⌜ RingDrawn (inkOf (ring .level) 512) view ring (heightOf radius) (heightOf (ring .hole))
+// Draws a ring whose heights are held, within a clip that is cut down to its box.
+fn draw_held(page: &mut [u8], view: View, ring: Ring, outer: &[u32], inner: &[u32]) -> u64
+    requires { ⌜ Ready view (length (now page)) ring (now outer) (now inner) ⌝ }
+    ensures { λ t. ⌜ RingDrawn (inkOf (ring .level) 512) view ring (at (now (outer .entry))) (at (now (inner .entry)))
         (view .x0) (view .y0) (view .x1) (view .y1) (now (page .entry)) (now (page .exit)) t ⌝ }
 {
-    let part = box_of(view, ring, radius);
+    if encloses(view.x0, view.x1, ring.cx, ring.radius) {
+        if encloses(view.y0, view.y1, ring.cy, ring.radius) {
+            return mirror::draw_enclosed(page, view, ring, outer, inner);
+        }
+    }
+    rows::draw_rows(page, view, ring, outer, inner)
+}
+
+// Works out the heights of a small ring and draws it, within a clip that is cut down to its box.
+fn draw_small(page: &mut [u8], view: View, ring: Ring) -> u64
+    requires { ⌜ Placed view (length (now page)) ring × (ring .hole ≤ ring .radius) × (ring .radius ≤ smallMost) ⌝ }
+    ensures { λ t. ⌜ RingDrawn (inkOf (ring .level) 512) view ring (heightOf (ring .radius)) (heightOf (ring .hole))
+        (view .x0) (view .y0) (view .x1) (view .y1) (now (page .entry)) (now (page .exit)) t ⌝ }
+{
+    let mut outer = [0u32; SMALL_HEIGHTS];
+    coverage::circle::heights(&mut outer, ring.radius);
+    let mut inner = [0u32; SMALL_HEIGHTS];
+    coverage::circle::heights(&mut inner, ring.hole);
+    draw_held(page, view, ring, &outer, &inner)
+}
+
+// The same for any ring.
+fn draw_large(page: &mut [u8], view: View, ring: Ring) -> u64
+    requires { ⌜ Placed view (length (now page)) ring × (ring .hole ≤ ring .radius) × (ring .radius ≤ radiusMost) ⌝ }
+    ensures { λ t. ⌜ RingDrawn (inkOf (ring .level) 512) view ring (heightOf (ring .radius)) (heightOf (ring .hole))
+        (view .x0) (view .y0) (view .x1) (view .y1) (now (page .entry)) (now (page .exit)) t ⌝ }
+{
+    let mut outer = [0u32; HEIGHTS];
+    coverage::circle::heights(&mut outer, ring.radius);
+    let mut inner = [0u32; HEIGHTS];
+    coverage::circle::heights(&mut inner, ring.hole);
+    draw_held(page, view, ring, &outer, &inner)
+}
+
+// Draws what lies between the circles of a ring.
+fn draw_between(page: &mut [u8], view: View, ring: Ring) -> u64
+    requires { ⌜ Lawful view (length (now page)) × (ring .cx ≤ offsetMost) × (ring .cy ≤ offsetMost) × (ring .hole ≤ ring .radius) × (ring .radius ≤ radiusMost) ⌝ }
+    ensures { λ t. ⌜ RingDrawn (inkOf (ring .level) 512) view ring (heightOf (ring .radius)) (heightOf (ring .hole))
+        (view .x0) (view .y0) (view .x1) (view .y1) (now (page .entry)) (now (page .exit)) t ⌝ }
+{
+    let part = box_of(view, ring);
     if part.x1 <= part.x0 {
         return 0;
     }
     if part.y1 <= part.y0 {
         return 0;
     }
-    let outer = coverage::circle::heights(radius);
-    let inner = coverage::circle::heights(ring.hole);
-    rows::draw_rows(page, part, ring, &outer, &inner)
+    if ring.radius <= SMALL_MOST {
+        return draw_small(page, part, ring);
+    }
+    draw_large(page, part, ring)
 }
 
 // Draws a disc within the view's clip; hands back how many pixels it touched.
@@ -63,10 +134,11 @@ pub fn draw_disc(page: &mut [u8], view: View, disc: shapes::Disc, level: u8) -> 
     let ring = Ring {
         cx: c.x,
         cy: c.y,
+        radius: disc.radius as u64,
         hole: 0,
         level,
     };
-    draw_between(page, view, ring, disc.radius as u64)
+    draw_between(page, view, ring)
 }
 
 // Draws a ring within the view's clip; hands back how many pixels it touched.
@@ -78,8 +150,9 @@ pub fn draw_ring(page: &mut [u8], view: View, ring: shapes::Ring, level: u8) -> 
     let between = Ring {
         cx: c.x,
         cy: c.y,
+        radius: ring.radius as u64,
         hole: (ring.radius - ring.width) as u64,
         level,
     };
-    draw_between(page, view, between, ring.radius as u64)
+    draw_between(page, view, between)
 }

@@ -1,7 +1,10 @@
-// The rows of a ring, each drawn in stretches: edges are blended pixel by pixel, what is whole is filled, a hole is left alone.
+// The rows of a ring within a clip, each drawn in stretches: edges are blended pixel by pixel, what is whole is filled, a hole is left alone.
+use super::Ring;
+use super::cover::Widths;
 use super::cover::covered_between;
 use super::cover::measure;
-use coverage::circle::HEIGHTS;
+use super::encloses;
+use super::mirror::draw_sides;
 use coverage::circle::apart_of;
 use numbers::ORIGIN;
 use numbers::less;
@@ -17,15 +20,7 @@ ghost use Rattle.page.specs.inner.Ink.{inkOf};
 ghost use Rattle.page.specs.Page.{over};
 ghost use Rattle.page.specs.inner.Paint.{dot, touch};
 ghost use Rattle.coverage.specs.inner.Circle.{apart};
-ghost use Rattle.circles.specs.inner.Row.{at, between, Nested, leftOf, rightOf, Ready, Band, RingDrawn};
-
-// The offsets of the centre, the radius of the hole, and the level.
-pub(crate) struct Ring {
-    pub cx: u64,
-    pub cy: u64,
-    pub hole: u64,
-    pub level: u8,
-}
+ghost use Rattle.circles.specs.inner.Row.{at, between, Circles, leftOf, rightOf, Ready, Measured, Band, RingDrawn};
 
 // The first column of the clip that is nearer than d to the centre, and the first past those.
 pub(crate) fn left_at(view: View, ring: Ring, d: u64) -> usize
@@ -42,30 +37,27 @@ pub(crate) fn right_at(view: View, ring: Ring, d: u64) -> usize
 }
 
 // Blends a stretch whose first pixel is in column x of the row at distance b; hands back how many pixels it touched.
-fn blend_edge(
-    stretch: &mut [u8],
-    outer: &[u32; HEIGHTS],
-    inner: &[u32; HEIGHTS],
-    hole: u64,
-    cx: u64,
-    x: usize,
-    b: u64,
-    level: u8,
-) -> u64
-    requires { ⌜ Nested (at (now outer)) (at (now inner)) hole × (b ≤ radiusMost) × (x + length (now stretch) ≤ 1024) ⌝ }
-    requires { ⌜ ((i : ℕ) → i < length (now stretch) → apart cx (x + i + origin) ≤ radiusMost) ⌝ }
+fn blend_edge(stretch: &mut [u8], ring: Ring, outer: &[u32], inner: &[u32], x: usize, b: u64) -> u64
+    requires { ⌜ Circles (now outer) (now inner) ring × (b < ring .radius) × (x + length (now stretch) ≤ 1024) ⌝ }
+    requires { ⌜ ((i : ℕ) → i < length (now stretch) → apart (ring .cx) (x + i + origin) ≤ radiusMost) ⌝ }
     ensures { λ r. ⌜ now (stretch .exit) ≡ over
-        (λ i. dot (inkOf level 512) (between (at (now (outer .entry))) (at (now (inner .entry))) (apart cx (x + i + origin)) b))
+        (λ i. dot (inkOf (ring .level) 512) (between (at (now (outer .entry))) (at (now (inner .entry))) (apart (ring .cx) (x + i + origin)) b))
         (now (stretch .entry)) ⌝ }
     ensures { λ r. ⌜ r ≡ sumTo (length (now (stretch .entry)))
-        (λ i. touch (between (at (now (outer .entry))) (at (now (inner .entry))) (apart cx (x + i + origin)) b)) ⌝ }
+        (λ i. touch (between (at (now (outer .entry))) (at (now (inner .entry))) (apart (ring .cx) (x + i + origin)) b)) ⌝ }
 {
     let mut touched: u64 = 0;
     let mut i = 0;
     while i < stretch.len() {
-        let n = covered_between(outer, inner, hole, apart_of(cx, (x + i) as u64 + ORIGIN), b);
+        let n = covered_between(
+            outer,
+            inner,
+            ring,
+            apart_of(ring.cx, (x + i) as u64 + ORIGIN),
+            b,
+        );
         let u = stretch[i];
-        stretch[i] = page::blend_byte_512(u, level, n);
+        stretch[i] = page::blend_byte_512(u, ring.level, n);
         touched += page::touched(n);
         i += 1;
     }
@@ -77,13 +69,13 @@ fn draw_edge(
     page: &mut [u8],
     view: View,
     ring: Ring,
-    outer: &[u32; HEIGHTS],
-    inner: &[u32; HEIGHTS],
+    outer: &[u32],
+    inner: &[u32],
     y: usize,
     from: usize,
     end: usize,
 ) -> u64
-    requires { ⌜ Ready view (length (now page)) ring (at (now outer)) (at (now inner)) ⌝ }
+    requires { ⌜ Ready view (length (now page)) ring (now outer) (now inner) ⌝ }
     requires { ⌜ (view .y0 ≤ y) × (y < view .y1) × (view .x0 ≤ from) × (from ≤ end) × (end ≤ view .x1) ⌝ }
     ensures { λ t. ⌜ RingDrawn (inkOf (ring .level) 512) view ring (at (now (outer .entry))) (at (now (inner .entry)))
         from y end (y + 1) (now (page .entry)) (now (page .exit)) t ⌝ }
@@ -92,16 +84,7 @@ fn draw_edge(
     let a = y * w + from;
     let e = y * w + end;
     let b = apart_of(ring.cy, y as u64 + ORIGIN);
-    blend_edge(
-        &mut page[a..e],
-        outer,
-        inner,
-        ring.hole,
-        ring.cx,
-        from,
-        b,
-        ring.level,
-    )
+    blend_edge(&mut page[a..e], ring, outer, inner, from, b)
 }
 
 // Draws columns p to s of row y, of which q to r are whole.
@@ -109,15 +92,15 @@ fn draw_band(
     page: &mut [u8],
     view: View,
     ring: Ring,
-    outer: &[u32; HEIGHTS],
-    inner: &[u32; HEIGHTS],
+    outer: &[u32],
+    inner: &[u32],
     y: usize,
     p: usize,
     q: usize,
     r: usize,
     s: usize,
 ) -> u64
-    requires { ⌜ Ready view (length (now page)) ring (at (now outer)) (at (now inner)) ⌝ }
+    requires { ⌜ Ready view (length (now page)) ring (now outer) (now inner) ⌝ }
     requires { ⌜ Band (at (now outer)) (at (now inner)) view ring y p q r s ⌝ }
     ensures { λ t. ⌜ RingDrawn (inkOf (ring .level) 512) view ring (at (now (outer .entry))) (at (now (inner .entry)))
         p y s (y + 1) (now (page .entry)) (now (page .exit)) t ⌝ }
@@ -129,21 +112,20 @@ fn draw_band(
 }
 
 // Draws the columns of the clip in row y: one band, or a band on each side of the hole where the row meets the inner circle.
-fn draw_row(
+fn draw_bands(
     page: &mut [u8],
     view: View,
     ring: Ring,
-    outer: &[u32; HEIGHTS],
-    inner: &[u32; HEIGHTS],
+    outer: &[u32],
+    inner: &[u32],
+    row: Widths,
     y: usize,
 ) -> u64
-    requires { ⌜ Ready view (length (now page)) ring (at (now outer)) (at (now inner)) ⌝ }
-    requires { ⌜ (view .y0 ≤ y) × (y < view .y1) ⌝ }
+    requires { ⌜ Ready view (length (now page)) ring (now outer) (now inner) × (view .y0 ≤ y) × (y < view .y1) ⌝ }
+    requires { ⌜ Measured (at (now outer)) (at (now inner)) (ring .radius) (apart (ring .cy) (y + origin)) row ⌝ }
     ensures { λ t. ⌜ RingDrawn (inkOf (ring .level) 512) view ring (at (now (outer .entry))) (at (now (inner .entry)))
         (view .x0) y (view .x1) (y + 1) (now (page .entry)) (now (page .exit)) t ⌝ }
 {
-    let b = apart_of(ring.cy, y as u64 + ORIGIN);
-    let row = measure(outer, inner, ring.hole, b);
     let p = left_at(view, ring, row.outer);
     let q = left_at(view, ring, row.whole);
     let r = right_at(view, ring, row.whole);
@@ -160,15 +142,29 @@ fn draw_row(
     left + right
 }
 
+// Draws the columns of the clip in row y, both sides at once where it has them whole.
+fn draw_row(page: &mut [u8], view: View, ring: Ring, outer: &[u32], inner: &[u32], y: usize) -> u64
+    requires { ⌜ Ready view (length (now page)) ring (now outer) (now inner) × (view .y0 ≤ y) × (y < view .y1) ⌝ }
+    ensures { λ t. ⌜ RingDrawn (inkOf (ring .level) 512) view ring (at (now (outer .entry))) (at (now (inner .entry)))
+        (view .x0) y (view .x1) (y + 1) (now (page .entry)) (now (page .exit)) t ⌝ }
+{
+    let b = apart_of(ring.cy, y as u64 + ORIGIN);
+    let row = measure(outer, inner, ring, b);
+    if encloses(view.x0, view.x1, ring.cx, row.outer) {
+        return draw_sides(page, view, ring, outer, inner, row, b, y);
+    }
+    draw_bands(page, view, ring, outer, inner, row, y)
+}
+
 // Draws the rows of the clip.
 pub(crate) fn draw_rows(
     page: &mut [u8],
     view: View,
     ring: Ring,
-    outer: &[u32; HEIGHTS],
-    inner: &[u32; HEIGHTS],
+    outer: &[u32],
+    inner: &[u32],
 ) -> u64
-    requires { ⌜ Ready view (length (now page)) ring (at (now outer)) (at (now inner)) ⌝ }
+    requires { ⌜ Ready view (length (now page)) ring (now outer) (now inner) ⌝ }
     ensures { λ t. ⌜ RingDrawn (inkOf (ring .level) 512) view ring (at (now (outer .entry))) (at (now (inner .entry)))
         (view .x0) (view .y0) (view .x1) (view .y1) (now (page .entry)) (now (page .exit)) t ⌝ }
 {

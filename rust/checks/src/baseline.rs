@@ -1,8 +1,9 @@
 //! The drawing rules as one would first write them in Rust: what the benchmark measures against.
 //!
 //! A line takes the closed form of each column, with a division for q and r, a clip test for each
-//! pixel and a division for each blend. A circle works out its heights by integer square roots and
-//! draws each row of its box, the inside filled.
+//! pixel and a division for each blend. A circle works out its heights by the processor's square
+//! root and draws each row of its box: the inside filled, the edges left and right of the centre
+//! from one coverage.
 
 use greystroke::{Clip, Disc, Line, Refusal, Ring, Shape, Size};
 
@@ -117,18 +118,23 @@ impl Canvas<'_> {
     }
 
     /// The bytes of a row from one column to another, both brought into the clip.
-    fn stretch(&mut self, y: i64, from: i64, end: i64) -> (i64, &mut [u8]) {
+    fn stretch(&mut self, y: i64, from: i64, end: i64) -> &mut [u8] {
         let from = from.clamp(self.left, self.right);
         let end = end.clamp(from, self.right);
         let row = y * self.width;
-        let bytes = &mut self.page[(row + from) as usize..(row + end) as usize];
-        (from, bytes)
+        &mut self.page[(row + from) as usize..(row + end) as usize]
     }
 }
 
 fn blend(old: u8, level: u8, n: u64, d: u64) -> u8 {
     let sum = u64::from(old) * (d - n) + u64::from(level) * n;
     ((2 * sum + d) / (2 * d)) as u8
+}
+
+/// The same with a coverage of n over 512.
+fn blend_512(old: u8, level: u8, n: u32) -> u8 {
+    let sum = u32::from(old) * (512 - n) + u32::from(level) * n;
+    ((sum + 256) / 512) as u8
 }
 
 /// A line in its own columns and rows: the longer span runs along the columns and rows rise.
@@ -217,18 +223,21 @@ fn draw_line(canvas: &mut Canvas, line: Line) -> u64 {
 
 /// The heights of one circle, 256 times as high.
 struct Circle {
+    radius: usize,
     heights: [u32; 257],
 }
 
 impl Circle {
     fn of(radius: u16) -> Circle {
         let mut heights = [0; 257];
-        let radius = u64::from(radius);
-        for k in 0..radius {
-            let root = ((radius * radius - k * k) << 18).isqrt();
-            heights[k as usize] = root.div_ceil(2) as u32;
+        let square = u32::from(radius) * u32::from(radius);
+        for (k, height) in (0..u32::from(radius)).zip(&mut heights) {
+            *height = height_of(square - k * k);
         }
-        Circle { heights }
+        Circle {
+            radius: radius.into(),
+            heights,
+        }
     }
 
     /// The 512ths covered at the distances `across` and `down` from the centre.
@@ -239,7 +248,7 @@ impl Circle {
     }
 
     /// How many pixels of a row, from the centre outwards, are whole, and how many are touched.
-    fn widths(&self, down: usize) -> (i64, i64) {
+    fn widths(&self, down: usize) -> (usize, usize) {
         let mut whole = (self.heights[down + 1] / 256) as usize;
         while whole > 0 && self.cover(whole - 1, down) < 512 {
             whole -= 1;
@@ -248,29 +257,21 @@ impl Circle {
         while self.cover(touched, down) > 0 {
             touched += 1;
         }
-        (whole as i64, touched as i64)
+        (whole, touched)
     }
 }
 
-/// The outer and the inner circle of a ring, and its centre; a disc has an inner radius of 0.
-struct Circles {
-    outer: Circle,
-    inner: Circle,
-    hole: i64,
-    x: i64,
-    y: i64,
-}
-
-impl Circles {
-    /// The 512ths covered between the two circles. A row past the hole needs no heights of it.
-    fn cover(&self, across: usize, down: usize) -> u32 {
-        let outer = self.outer.cover(across, down);
-        if self.hole <= down as i64 {
-            outer
-        } else {
-            outer - self.inner.cover(across, down)
-        }
+/// The whole number nearest to 256 times the square root: the processor's root, put right by test.
+fn height_of(square: u32) -> u32 {
+    let m = u64::from(square) << 18;
+    let mut y = (256.0 * f64::from(square).sqrt() + 0.5) as u64;
+    while m < (2 * y - 1) * (2 * y - 1) {
+        y -= 1;
     }
+    while (2 * y + 1) * (2 * y + 1) < m {
+        y += 1;
+    }
+    y as u32
 }
 
 /// The distance of a pixel from the centre along one axis.
@@ -291,56 +292,82 @@ fn draw_ring(canvas: &mut Canvas, x: i16, y: i16, radius: u16, hole: u16) -> u64
     if top >= bottom || x + reach <= canvas.left || canvas.right <= x - reach {
         return 0;
     }
-    let circles = Circles {
-        outer: Circle::of(radius),
-        inner: Circle::of(hole),
-        hole: hole.into(),
-        x,
-        y,
-    };
-    (top..bottom)
-        .map(|row| draw_row(canvas, &circles, row))
-        .sum()
+    let outer = Circle::of(radius);
+    let rows = top..bottom;
+    if hole == 0 {
+        let rows = rows.map(|row| draw_disc_row(canvas, &outer, x, row, apart(y, row)));
+        return rows.sum();
+    }
+    let inner = Circle::of(hole);
+    let rows = rows.map(|row| draw_ring_row(canvas, &outer, &inner, x, row, apart(y, row)));
+    rows.sum()
 }
 
-fn draw_row(canvas: &mut Canvas, circles: &Circles, y: i64) -> u64 {
-    let x = circles.x;
-    let down = apart(circles.y, y);
-    let (whole, outer) = circles.outer.widths(down);
-    if circles.hole <= down as i64 {
-        return blend_edge(canvas, circles, y, x - outer, x - whole)
-            + fill(canvas, y, x - whole, x + whole)
-            + blend_edge(canvas, circles, y, x + whole, x + outer);
+fn draw_disc_row(canvas: &mut Canvas, circle: &Circle, x: i64, y: i64, down: usize) -> u64 {
+    let (whole, end) = circle.widths(down);
+    fill(canvas, y, x - whole as i64, x + whole as i64)
+        + blend_edges(canvas, x, y, whole, end, |across| {
+            circle.cover(across, down)
+        })
+}
+
+/// A row past the hole needs no heights of the inner circle.
+fn draw_ring_row(
+    canvas: &mut Canvas,
+    outer: &Circle,
+    inner: &Circle,
+    x: i64,
+    y: i64,
+    down: usize,
+) -> u64 {
+    if inner.radius <= down {
+        return draw_disc_row(canvas, outer, x, y, down);
     }
-    let (hole, inner) = circles.inner.widths(down);
-    let inner = inner.min(outer);
-    let whole = whole.max(inner);
-    blend_edge(canvas, circles, y, x - outer, x - whole)
-        + fill(canvas, y, x - whole, x - inner)
-        + blend_edge(canvas, circles, y, x - inner, x - hole)
-        + blend_edge(canvas, circles, y, x + hole, x + inner)
-        + fill(canvas, y, x + inner, x + whole)
-        + blend_edge(canvas, circles, y, x + whole, x + outer)
+    let cover = |across| outer.cover(across, down) - inner.cover(across, down);
+    let (whole, end) = outer.widths(down);
+    let (hole, edge) = inner.widths(down);
+    let edge = edge.min(end);
+    let whole = whole.max(edge);
+    fill(canvas, y, x - whole as i64, x - edge as i64)
+        + fill(canvas, y, x + edge as i64, x + whole as i64)
+        + blend_edges(canvas, x, y, whole, end, cover)
+        + blend_edges(canvas, x, y, hole, edge, cover)
 }
 
 fn fill(canvas: &mut Canvas, y: i64, from: i64, end: i64) -> u64 {
     let level = canvas.level;
-    let (_, bytes) = canvas.stretch(y, from, end);
+    let bytes = canvas.stretch(y, from, end);
     bytes.fill(level);
     bytes.len() as u64
 }
 
-fn blend_edge(canvas: &mut Canvas, circles: &Circles, y: i64, from: i64, end: i64) -> u64 {
+/// Blends what lies `from` to `end` away from the centre: one coverage for the two sides of a row.
+fn blend_edges(
+    canvas: &mut Canvas,
+    x: i64,
+    y: i64,
+    from: usize,
+    end: usize,
+    cover: impl Fn(usize) -> u32,
+) -> u64 {
+    let reach = end as i64;
+    if x - reach < canvas.left || canvas.right < x + reach {
+        let touches = (from..end).map(|across| {
+            let n = cover(across).into();
+            canvas.touch(x + across as i64, y, n, 512)
+                + canvas.touch(x - across as i64 - 1, y, n, 512)
+        });
+        return touches.sum();
+    }
     let level = canvas.level;
-    let down = apart(circles.y, y);
-    let (from, bytes) = canvas.stretch(y, from, end);
+    let (left, right) = canvas.stretch(y, x - reach, x + reach).split_at_mut(end);
+    let sides = left[..end - from].iter_mut().rev().zip(&mut right[from..]);
     let mut touched = 0;
-    for (x, byte) in (from..).zip(bytes) {
-        let n = circles.cover(apart(circles.x, x), down);
-        if n > 0 {
-            *byte = blend(*byte, level, n.into(), 512);
-            touched += 1;
-        }
+    for (across, (left, right)) in (from..end).zip(sides) {
+        let n = cover(across);
+        *left = blend_512(*left, level, n);
+        *right = blend_512(*right, level, n);
+        touched += if n > 0 { 2 } else { 0 };
     }
     touched
 }

@@ -11,7 +11,7 @@ returns c =
     let top-side = c .before .before .before in
     let left-side = top-side .before .before in
     let a = left-side .before .args in
-    let top : top-side .clamp-offset .result ≡ clamped (a .view .y0) (a .view .y1) (a .ring .cy - a .radius) = cc in
+    let top : top-side .clamp-offset .result ≡ clamped (a .view .y0) (a .view .y1) (a .ring .cy - a .ring .radius) = cc in
     rw (left-side .left-at .ensures, top, c .before .before .right-at .ensures, c .clamp-offset2 .ensures)
 
 pub box-of-spec : {M : Type 1} → statement M

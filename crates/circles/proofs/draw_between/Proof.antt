@@ -1,52 +1,54 @@
--- The arrays hold the heights of the two circles, and the ring has nothing outside its box.
+-- The ring has nothing outside its box.
 use native.Mathlib.Omega.{arith}
-use Rattle.circles.specs.inner.Row.{at}
-use Rattle.circles.proofs.Box.{held, boxed-drawn, boxed-empty, boxed-ready}
+use Rattle.circles.proofs.Box.{boxed-drawn, boxed-empty, boxed-placed}
 use borrow.Author.Needs.{needs}
 use Rattle.circles.proofs.draw_between.Statement.{statement}
 use Rattle.circles.proofs.draw_between.Tie as tie
 
--- the states behind the box and behind the heights
+-- the states behind the box, and at entry
 abbrev boxed : tie.Else2 → tie.After-box-of
 boxed c = c .before .before .before .before
 
-abbrev held-heights : tie.After-heights2 → tie.Else2
-held-heights c = c .before .before
+abbrev start : tie.After-box-of → tie.Start
+start c = c .before .before
 
 returns : tie.Need-returns
 returns c =
     let box = c .before .before in
-    let s = box .before .before in
+    let s = start box in
     let test = rw (box .box-of .ensures) at (c .if1 .taken) in
-    boxed-empty (s .args .view) (s .args .ring) (s .args .radius) (s .pre .0) _ _ _ (λ x y i. omega arith)
+    boxed-empty (s .args .view) (s .args .ring) (s .pre .0) _ _ _ (λ x y i. omega arith)
 
 returns-2 : tie.Need-returns-2
 returns-2 c =
     let box = c .before .before .before .before in
-    let s = box .before .before in
+    let s = start box in
     let test = rw (box .box-of .ensures) at (c .if2 .taken) in
-    boxed-empty (s .args .view) (s .args .ring) (s .args .radius) (s .pre .0) _ _ _ (λ x y i. omega arith)
+    boxed-empty (s .args .view) (s .args .ring) (s .pre .0) _ _ _ (λ x y i. omega arith)
 
-draw-rows-requires : tie.Need-draw-rows-requires
-draw-rows-requires c κs =
-    let hs = c .before .before .before in
-    let box = boxed (held-heights hs) in
-    let s = box .before .before in
-    let outer = held (hs .before .heights .result) (s .args .radius) (hs .before .heights .ensures) in
-    let inner = held (hs .heights2 .result) (s .args .ring .hole) (hs .heights2 .ensures) in
-    rw (box .box-of .ensures, outer, inner)
-    (boxed-ready (s .args .view) (s .args .ring) (s .args .radius) (s .pre .0) (omega arith) (omega arith) (omega arith))
+draw-small-requires : tie.Need-draw-small-requires
+draw-small-requires c κs =
+    let box = boxed (c .before .before .before) in
+    let s = start box in
+    (rw (box .box-of .ensures) (boxed-placed (s .args .view) (s .args .ring) (s .pre .0) (s .pre .1) (s .pre .2)), s .pre .3, c .before .if3 .taken)
 
 returns-3 : tie.Need-returns-3
 returns-3 c =
-    let done = c .before .before in
-    let hs = done .before .before .before .before in
-    let box = boxed (held-heights hs) in
-    let s = box .before .before in
-    let outer = held (hs .before .heights .result) (s .args .radius) (hs .before .heights .ensures) in
-    let inner = held (hs .heights2 .result) (s .args .ring .hole) (hs .heights2 .ensures) in
-    boxed-drawn (s .args .view) (s .args .ring) (s .args .radius) (s .pre .0) _
-    (rw (box .box-of .ensures, outer, inner) at (done .draw-rows .ensures))
+    let box = boxed (c .before .before .before .before .before .before) in
+    let s = start box in
+    boxed-drawn (s .args .view) (s .args .ring) (s .pre .0) _ (rw (box .box-of .ensures) at (c .before .before .draw-small .ensures))
+
+draw-large-requires : tie.Need-draw-large-requires
+draw-large-requires c κs =
+    let box = boxed (c .before .before .before) in
+    let s = start box in
+    (rw (box .box-of .ensures) (boxed-placed (s .args .view) (s .args .ring) (s .pre .0) (s .pre .1) (s .pre .2)), s .pre .3, s .pre .4)
+
+returns-4 : tie.Need-returns-4
+returns-4 c =
+    let box = boxed (c .before .before .before .before .before .before) in
+    let s = start box in
+    boxed-drawn (s .args .view) (s .args .ring) (s .pre .0) _ (rw (box .box-of .ensures) at (c .before .before .draw-large .ensures))
 
 pub draw-between-spec : {M : Type 1} → statement M
 draw-between-spec =
@@ -55,8 +57,9 @@ draw-between-spec =
     (λ c κs. search needs)
     returns
     returns-2
-    (λ c κs. search needs)
-    (λ c κs. search needs)
-    draw-rows-requires
+    draw-small-requires
     (λ c. search needs)
-    returns-3)
+    returns-3
+    draw-large-requires
+    (λ c. search needs)
+    returns-4)

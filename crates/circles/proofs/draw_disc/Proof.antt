@@ -39,7 +39,7 @@ returns c =
     let g = s .args .disc in
     let centre-is = centre p in
     drawn-same (shapeOn (asShape g)) (s .pre .0)
-    (disc-on g (record { cx = p .point-of .result .x; cy = p .point-of .result .y; hole = 0; level = s .args .level })
+    (disc-on g (record { cx = p .point-of .result .x; cy = p .point-of .result .y; radius = g .radius; hole = 0; level = s .args .level })
     (s .pre .1) (ap (λ (c : Point). c .x) centre-is) (ap (λ (c : Point). c .y) centre-is) refl)
     (d .draw-between .ensures)
 

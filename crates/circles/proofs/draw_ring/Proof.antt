@@ -24,8 +24,8 @@ centre c =
 abbrev start : tie.After-point-of → tie.Start
 start c = c .before .before .before .before
 
-sub-draw-between : tie.Need-sub-draw-between
-sub-draw-between c = let s = start (c .before) in ring-lawful (s .args .ring) (s .pre .1) .most
+sub-t8 : tie.Need-sub-t8
+sub-t8 c = let s = start (c .before .before) in ring-lawful (s .args .ring) (s .pre .1) .most
 
 draw-between-requires : tie.Need-draw-between-requires
 draw-between-requires c κs =
@@ -43,9 +43,9 @@ returns c =
     let g = s .args .ring in
     let centre-is = centre p in
     drawn-same (shapeOn (asShape g)) (s .pre .0)
-    (ring-on g (record { cx = p .point-of .result .x; cy = p .point-of .result .y; hole = g .radius - g .width; level = s .args .level })
+    (ring-on g (record { cx = p .point-of .result .x; cy = p .point-of .result .y; radius = g .radius; hole = g .radius - g .width; level = s .args .level })
     (s .pre .1) (ap (λ (c : Point). c .x) centre-is) (ap (λ (c : Point). c .y) centre-is) refl)
     (d .draw-between .ensures)
 
 pub draw-ring-spec : {M : Type 1} → statement M
-draw-ring-spec = tie.close (tie.spec (λ c κs. search needs) sub-draw-between (λ c. search needs) (λ c. search needs) draw-between-requires (λ c. search needs) returns)
+draw-ring-spec = tie.close (tie.spec (λ c κs. search needs) (λ c. search needs) sub-t8 (λ c. search needs) draw-between-requires (λ c. search needs) returns)

@@ -2,7 +2,7 @@
 use mathlib.Core.Path.{_≡_}
 use mathlib.Core.List.{List}
 use Prim.Native.Nat.{ℕ, _+_, _*_, _-_, _≤_, _<_}
-use lib.ListN.{getD}
+use lib.ListN.{length, getD}
 use Rattle.numbers.specs.inner.Offset.{origin, offsetMost}
 use Rattle.shapes.specs.Limits.{radiusMost}
 use Rattle.page.specs.inner.Paint.{clipped, Lawful, Drawn, clamped}
@@ -10,7 +10,7 @@ use Rattle.page.specs.declared.View.{View}
 use Rattle.coverage.specs.inner.Circle.{apart}
 use Rattle.coverage.specs.Circle.{chords}
 use Rattle.circles.specs.declared.cover.Widths.{Widths}
-use Rattle.circles.specs.declared.rows.Ring.{Ring}
+use Rattle.circles.specs.declared.Ring.{Ring}
 
 -- ---- by distances from the centre
 
@@ -27,16 +27,23 @@ pub record Heights (Y : ℕ → ℕ) (R : ℕ) : Type 0 where
   pub falls : (j k : ℕ) → j ≤ k → Y k ≤ Y j
   pub most : (k : ℕ) → Y k ≤ 256 * R
 
--- Y are the heights of a circle, and Z those of a circle of radius r within it
-pub record Nested (Y Z : ℕ → ℕ) (r : ℕ) : Type 0 where
-  pub outer : Heights Y radiusMost
+-- Y are the heights of a circle of radius R, and Z those of a circle of radius r within it
+pub record Nested (Y Z : ℕ → ℕ) (R r : ℕ) : Type 0 where
+  pub outer : Heights Y R
   pub inner : Heights Z r
-  pub small : r ≤ radiusMost
+  pub least : r ≤ R
+  pub most : R ≤ radiusMost
   pub within : (k : ℕ) → Z k ≤ Y k
 
+-- two arrays hold the heights of a ring's circles, those at 0 to the radius at least
+pub record Circles (outer inner : List ℕ) (ring : Ring) : Type 0 where
+  pub nested : Nested (at outer) (at inner) (ring .radius) (ring .hole)
+  pub outer-held : ring .radius < length outer
+  pub inner-held : ring .hole < length inner
+
 -- in the row at distance b nothing is covered below `hole`, all is from `inner` to `whole`, and nothing from `outer` on
-pub record Measured (Y Z : ℕ → ℕ) (b : ℕ) (row : Widths) : Type 0 where
-  pub order : (row .hole ≤ row .inner) × (row .inner ≤ row .whole) × (row .whole ≤ row .outer) × (row .outer ≤ radiusMost)
+pub record Measured (Y Z : ℕ → ℕ) (R b : ℕ) (row : Widths) : Type 0 where
+  pub order : (row .hole ≤ row .inner) × (row .inner ≤ row .whole) × (row .whole ≤ row .outer) × (row .outer ≤ R)
   pub hole-none : (a : ℕ) → a < row .hole → between Y Z a b ≡ 0
   pub whole-all : (a : ℕ) → row .inner ≤ a → a < row .whole → between Y Z a b ≡ 512
   pub outer-none : (a : ℕ) → row .outer ≤ a → between Y Z a b ≡ 0
@@ -54,29 +61,38 @@ leftOf view ring d = clamped (view .x0) (view .x1) (ring .cx - d)
 abbrev pub rightOf : View → Ring → ℕ → ℕ
 rightOf view ring d = clamped (view .x0) (view .x1) (ring .cx + d)
 
--- the part of a clip that the box of a ring of radius R meets
-abbrev pub boxed : View → Ring → ℕ → View
-boxed view ring R =
+-- the part of a clip that the box of a ring meets
+abbrev pub boxed : View → Ring → View
+boxed view ring =
     record {
       w = view .w;
       h = view .h;
-      x0 = leftOf view ring R;
-      y0 = clamped (view .y0) (view .y1) (ring .cy - R);
-      x1 = rightOf view ring R;
-      y1 = clamped (view .y0) (view .y1) (ring .cy + R);
+      x0 = leftOf view ring (ring .radius);
+      y0 = clamped (view .y0) (view .y1) (ring .cy - ring .radius);
+      x1 = rightOf view ring (ring .radius);
+      y1 = clamped (view .y0) (view .y1) (ring .cy + ring .radius);
     }
 
--- every pixel of the clip is near enough to the centre for its heights to be held
+-- every pixel of the clip is nearer to the centre than the radius
 pub record Reached (view : View) (ring : Ring) : Type 0 where
-  pub columns : (x : ℕ) → view .x0 ≤ x → x < view .x1 → apart (ring .cx) (x + origin) ≤ radiusMost
-  pub rows : (y : ℕ) → view .y0 ≤ y → y < view .y1 → apart (ring .cy) (y + origin) ≤ radiusMost
+  pub columns : (x : ℕ) → view .x0 ≤ x → x < view .x1 → apart (ring .cx) (x + origin) < ring .radius
+  pub rows : (y : ℕ) → view .y0 ≤ y → y < view .y1 → apart (ring .cy) (y + origin) < ring .radius
 
--- what the rows of a ring are drawn from: a page of size bytes, a clip within the ring's box, and the heights of its two circles
-pub record Ready (view : View) (size : ℕ) (ring : Ring) (Y Z : ℕ → ℕ) : Type 0 where
+-- the greatest radius whose heights are held in a short array
+abbrev pub smallMost : ℕ
+smallMost = 32
+
+-- where a ring is drawn: on a page of size bytes, in a clip within the ring's box
+pub record Placed (view : View) (size : ℕ) (ring : Ring) : Type 0 where
   pub lawful : Lawful view size
   pub near : Reached view ring
-  pub nested : Nested Y Z (ring .hole)
-  pub centre : ring .cx ≤ offsetMost
+  pub across : ring .cx ≤ offsetMost
+  pub down : ring .cy ≤ offsetMost
+
+-- and what from: the heights of its two circles
+pub record Ready (view : View) (size : ℕ) (ring : Ring) (outer inner : List ℕ) : Type 0 where
+  pub placed : Placed view size ring
+  pub circles : Circles outer inner ring
 
 -- columns p to s of row y, of which q to r are whole
 pub record Band (Y Z : ℕ → ℕ) (view : View) (ring : Ring) (y p q r s : ℕ) : Type 0 where

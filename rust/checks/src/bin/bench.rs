@@ -162,25 +162,27 @@ fn far_line(random: &mut Random) -> Shape {
     })
 }
 
-fn disc(random: &mut Random) -> Disc {
+/// A disc with its centre on the page, of radius 1 to `radius`.
+fn disc(random: &mut Random, radius: i64) -> Disc {
     Disc {
         x: random.between(0, i64::from(SIDE)) as i16,
         y: random.between(0, i64::from(SIDE)) as i16,
-        radius: random.between(1, 255) as u16,
+        radius: random.between(1, radius) as u16,
     }
 }
 
-fn ring(random: &mut Random) -> Shape {
-    let Disc { x, y, radius } = disc(random);
+/// A ring of such a disc, of width 1 to `width` or to its radius.
+fn ring(random: &mut Random, radius: i64, width: i64) -> Shape {
+    let Disc { x, y, radius } = disc(random, radius);
     Shape::Ring(Ring {
         x,
         y,
         radius,
-        width: random.between(1, i64::from(radius)) as u16,
+        width: random.between(1, width.min(radius.into())) as u16,
     })
 }
 
-fn print_ratios() {
+fn print_line_ratios() {
     print_ratio(
         "long_lines",
         "lines of 500 to 1,000 columns, all directions, half exact, ends on the page",
@@ -195,19 +197,31 @@ fn print_ratios() {
         |random| line_within(random, 16),
     );
     print_ratio(
+        "tiny_lines",
+        "lines of 2 columns, all directions, half exact, ends on the page",
+        |random| line_within(random, 2),
+    );
+    print_ratio(
         "far_lines",
         "lines with ends 2,000 to 3,300 from the page's middle, all directions, half exact",
         far_line,
     );
+}
+
+fn print_circle_ratios() {
+    for (name, radius) in [("discs_tiny", 4), ("discs_small", 20), ("discs", 255)] {
+        let inputs = format!("discs of radius 1 to {radius}, centre on the page");
+        print_ratio(name, &inputs, |random| Shape::Disc(disc(random, radius)));
+    }
+    for (name, radius, width) in [("rings_small", 20, 20), ("rings", 255, 255)] {
+        let inputs =
+            format!("rings of radius 1 to {radius}, width 1 to the radius, centre on the page");
+        print_ratio(name, &inputs, |random| ring(random, radius, width));
+    }
     print_ratio(
-        "discs",
-        "discs of radius 1 to 255, centre on the page",
-        |random| Shape::Disc(disc(random)),
-    );
-    print_ratio(
-        "rings",
-        "rings of radius 1 to 255, width 1 to the radius, centre on the page",
-        ring,
+        "rings_thin",
+        "rings of radius 1 to 255, width 1 to 3, centre on the page",
+        |random| ring(random, 255, 3),
     );
 }
 
@@ -218,8 +232,8 @@ fn mixed_shape(random: &mut Random) -> Shape {
         0 | 1 => line_within(random, longer),
         2 => line_within(random, 16),
         3 => far_line(random),
-        4 => Shape::Disc(disc(random)),
-        _ => ring(random),
+        4 => Shape::Disc(disc(random, 255)),
+        _ => ring(random, 255, 255),
     }
 }
 
@@ -288,7 +302,7 @@ fn full_list() -> Vec<u8> {
     }
     // A ring has seven bytes and a level two, so that the end record comes last.
     if writer.place.is_multiple_of(2) {
-        write(&mut writer, Record::Shape(ring(&mut random)));
+        write(&mut writer, Record::Shape(ring(&mut random, 255, 255)));
     }
     while writer.place + 1 < LONGEST_LIST {
         write(&mut writer, Record::Setting(Setting::Level(9)));
@@ -459,7 +473,8 @@ fn print_page_growth() {
 }
 
 fn main() {
-    print_ratios();
+    print_line_ratios();
+    print_circle_ratios();
     print_list_ratios();
     print_shape_growth();
     print_page_growth();

@@ -9,21 +9,26 @@ use borrow.Author.Needs.{needs}
 use Rattle.circles.proofs.cover.covered_between.Statement.{statement}
 use Rattle.circles.proofs.cover.covered_between.Tie as tie
 
+-- the state at entry
+abbrev start : tie.After-covered → tie.Start
+start c = c .before .before .before
+
 sub-result : tie.Need-sub-result
 sub-result c =
-    let s = c .before .before .before .before in
-    omega (arith, chords-rise (at (s .args .inner .now)) (at (s .args .outer .now)) (s .args .a) (s .args .b) (s .pre .0 .within))
+    let s = start (c .before .before .before .before) in
+    omega (arith, chords-rise (at (s .args .inner .now)) (at (s .args .outer .now)) (s .args .a) (s .args .b) (s .pre .0 .nested .within))
 
 returns : tie.Need-returns
 unfolding between
-returns c = (ap₂ _-_ (c .before .before .before .covered .ensures .0) (c .covered2 .ensures .0), omega arith)
+returns c = (ap₂ _-_ (c .before .before .before .before .covered .ensures .0) (c .covered2 .ensures .0), omega arith)
 
 returns-2 : tie.Need-returns-2
 unfolding between
 returns-2 c =
-    let s = c .before .before .before in
-    let none = chords-far (s .pre .0 .inner) (s .args .a) (s .args .b) (omega (arith, c .before .greater .ensures)) in
-    (omega (arith, c .before .before .covered .ensures .0, none), omega arith)
+    let outer = c .before .before .before in
+    let s = start outer in
+    let none = chords-far (s .pre .0 .nested .inner) (s .args .a) (s .args .b) (omega (arith, c .before .before .greater .ensures)) in
+    (omega (arith, outer .covered .ensures .0, none), omega arith)
 
 pub covered-between-spec : {M : Type 1} → statement M
 covered-between-spec =

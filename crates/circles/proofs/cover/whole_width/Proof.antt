@@ -18,18 +18,18 @@ abbrev μ-loop : tie.MeasureT-loop
 μ-loop hs b i₀ i = i
 
 loop-holds : tie.Need-loop-holds Inv-loop μ-loop
-loop-holds c = omega (arith, c .before .pre .0 .most (c .before .args .b + 1))
+loop-holds c = let s = c .before .before in omega (arith, s .pre .0 .most (s .args .b + 1))
 
 returns : tie.Need-returns Inv-loop μ-loop
 returns c =
-    let s = c .before .before .before .before .before in
+    let s = c .before .before .before .before .before .before in
     let i = c .before .before .before .loop .i in
     let here = chords-whole (s .pre .0) (i - 1) (s .args .b) (leb-true _ _ (sym (c .before .is-whole .ensures) ∙ c .if1 .taken)) in
     let Y = at (s .args .hs .now) in
-    (omega arith, λ a h. omega (arith, here, chords-falls (s .pre .0) a (i - 1) (s .args .b) (omega arith), chords-le Y a (s .args .b)))
+    λ a h. omega (arith, here, chords-falls (s .pre .0) a (i - 1) (s .args .b) (omega arith), chords-le Y a (s .args .b))
 
 returns-2 : tie.Need-returns-2 Inv-loop μ-loop
-returns-2 c = (omega arith, λ a h. absurd (omega arith))
+returns-2 c = λ a h. absurd (omega arith)
 
 pub whole-width-spec : {M : Type 1} → statement M
 whole-width-spec =

@@ -3,27 +3,22 @@ use mathlib.Core.Path.{_≡_}
 use Prim.Native.Nat.{ℕ, _+_, _≤_}
 use native.Mathlib.Omega.{arith}
 use Rattle.page.specs.inner.Ink.{inkOf}
-use Rattle.page.proofs.Blend.{blend-whole}
 use Rattle.page.proofs.Drawn.{drawn-count, drawn-band}
 use Rattle.circles.specs.inner.Row.{at, betweenOn}
-use Rattle.circles.proofs.Row.{ready-after}
+use Rattle.circles.proofs.Row.{ready-after, whole-ink}
 use borrow.Author.Needs.{needs}
 use Rattle.circles.proofs.rows.draw_band.Statement.{statement}
 use Rattle.circles.proofs.rows.draw_band.Tie as tie
 
 -- the state at entry, and after each stretch
 abbrev start : tie.After-draw-edge → tie.Start
-start c = c .before .before .before
+start c = c .before .before .before .before .before
 
 abbrev left-edge : tie.After-fill-row → tie.After-draw-edge
 left-edge c = c .before .before .before .before
 
 abbrev middle : tie.After-draw-edge2 → tie.After-fill-row
 middle c = c .before .before .before .before
-
--- a whole blend leaves the level
-whole-ink : (v u : ℕ) → inkOf v 512 512 u ≡ v
-whole-ink v u = blend-whole u v 512 (omega arith)
 
 draw-edge-requires-2 : tie.Need-draw-edge-requires-2
 draw-edge-requires-2 c κs =
@@ -39,7 +34,7 @@ few c =
     let left = left-edge (middle c) in
     let s = start left in
     let d = middle c .fill-row .ensures (inkOf (s .args .ring .level) 512) 512 (omega arith) (whole-ink _) in
-    let law = s .pre .0 .lawful in
+    let law = s .pre .0 .placed .lawful in
     omega (arith, drawn-count law (left .draw-edge .ensures), drawn-count law d, drawn-count law (c .draw-edge2 .ensures))
 
 add-result : tie.Need-add-result

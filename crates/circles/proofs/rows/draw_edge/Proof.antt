@@ -26,32 +26,33 @@ lent c =
     mid-len (a .y * a .view .w + a .from) (a .y * a .view .w + a .end) (a .page .now) (omega (arith, inside c)) ∙ omega arith
 
 mul-a : tie.Need-mul-a
-mul-a c = omega (arith, inside (c .before))
+mul-a c = omega (arith, inside (c .before .before .before))
 
 add-a : tie.Need-add-a
-add-a c = omega (arith, inside (c .before))
+add-a c = omega (arith, inside (c .before .before .before))
 
 mul-e : tie.Need-mul-e
-mul-e c = omega (arith, inside (c .before))
+mul-e c = omega (arith, inside (c .before .before .before))
 
 add-e : tie.Need-add-e
-add-e c = omega (arith, inside (c .before))
+add-e c = omega (arith, inside (c .before .before .before))
 
 part-blend-edge-end : tie.Need-part-blend-edge-end
-part-blend-edge-end c = omega (arith, inside (c .before .before))
+part-blend-edge-end c = omega (arith, inside (c .before .before .before .before))
 
 blend-edge-requires : tie.Need-blend-edge-requires
 blend-edge-requires c κs =
-    let s = c .before .before .before in
+    let s = c .before .before .before .before .before in
     let a = s .args in
-    let near = s .pre .0 .near in (
-      (s .pre .0 .nested, omega (arith, near .rows (a .y) (omega arith) (omega arith)), omega (arith, lent s)),
-      λ i h. near .columns (a .from + i) (omega arith) (omega (arith, lent s)),
+    let near = s .pre .0 .placed .near in
+    let most = s .pre .0 .circles .nested .most in (
+      (s .pre .0 .circles, omega (arith, near .rows (a .y) (omega arith) (omega arith)), omega (arith, lent s)),
+      λ i h. omega (arith, near .columns (a .from + i) (omega arith) (omega (arith, lent s)), most),
     )
 
 returns : tie.Need-returns
 returns c =
-    let s = c .before .before .before .before .before .before in
+    let s = c .before .before .before .before .before .before .before .before in
     let a = s .args in
     let b = c .before .before .before .before .apart-of .ensures in
     let e = c .before .before .blend-edge .ensures in

@@ -22,24 +22,24 @@ abbrev μ-loop : tie.MeasureT-loop
 
 loop-holds : tie.Need-loop-holds Inv-loop μ-loop
 loop-holds c =
-    let a = c .before .args in
+    let a = c .before .before .before .args in
     (omega arith, omega arith, drawn-none _ _ _ _ (a .page .now) (clip-zero _ _ _ _ _ (λ x y i. absurd (omega arith))))
 
 draw-row-requires : tie.Need-draw-row-requires Inv-loop μ-loop
 draw-row-requires c κs =
     let l = c .before .before .loop in
-    (ready-after (l .inv .2) (c .before .before .before .before .pre), omega arith)
+    (ready-after (l .inv .2) (c .before .before .before .before .before .before .pre), omega arith, omega arith)
 
 add-touched : tie.Need-add-touched Inv-loop μ-loop
 add-touched c =
     let s = c .before .before .before .before .before in
-    let law = s .before .before .pre .lawful in
+    let law = s .before .before .before .before .pre .placed .lawful in
     omega (arith, drawn-count law (s .loop .inv .2), drawn-count law (c .before .before .draw-row .ensures))
 
 loop-again : tie.Need-loop-again Inv-loop μ-loop
 loop-again c =
     let s = c .before .before .before .before .before in
-    let v = s .before .before .args .view in
+    let v = s .before .before .before .before .args .view in
     let l = s .loop in
     let least : v .y0 ≤ l .y = omega arith in (
       omega arith,
@@ -52,7 +52,7 @@ same-length c = drawn-length (c .before .loop .inv .2)
 
 returns : tie.Need-returns Inv-loop μ-loop
 returns c =
-    let a = c .before .before .before .args in
+    let a = c .before .before .before .before .before .args in
     let l = c .before .loop in
     let e : l .y ≡ a .view .y1 = omega arith in
     rw e at (l .inv .2)
