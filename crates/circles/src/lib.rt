@@ -1,4 +1,6 @@
 // Discs and rings on a lent page.
+use coverage::circle::HEIGHTS;
+use coverage::circle::heights;
 use numbers::less;
 use page::View;
 use page::clamp_offset;
@@ -49,8 +51,10 @@ fn draw_between(page: &mut [u8], view: View, ring: Ring, radius: u64) -> u64
     if part.y1 <= part.y0 {
         return 0;
     }
-    let outer = coverage::circle::heights(radius);
-    let inner = coverage::circle::heights(ring.hole);
+    let mut outer = [0u32; HEIGHTS];
+    heights(&mut outer, radius);
+    let mut inner = [0u32; HEIGHTS];
+    heights(&mut inner, ring.hole);
     rows::draw_rows(page, part, ring, &outer, &inner)
 }
 

@@ -3,6 +3,7 @@ use mathlib.Core.Path.{_≡_, refl, sym, ap, _∙_}
 use mathlib.Core.Logic.{_⊎_, inl, inr, ⊎-elim}
 use Prim.Native.Nat.{ℕ, zero, suc, _+_, _*_, _-_, _≤_, _<_}
 use native.Mathlib.Omega.{arith}
+use lib.ListN.{getD, replicate}
 use borrow.Author.Tests.{le-leb, lt-leb}
 use Rattle.numbers.proofs.Order.{lt-or-le, square-le}
 use Rattle.coverage.specs.Circle.{halfRoot, heightOf}
@@ -106,6 +107,12 @@ unfolding heightOf
 height-beyond R k h =
     let m = 262144 * (R * R - k * k) in
     half-root-from (256 * R) m 0 (omega arith) (omega (arith, square-le h)) ∙ half-root-none m
+
+-- an array of zeros, in which the heights are filled
+pub zeros : (n k : ℕ) → _≡_ {A = ℕ} (getD (replicate n 0) k 0) 0
+zeros zero k = refl
+zeros (suc n) zero = refl
+zeros (suc n) (suc k) = zeros n k
 
 -- within it there is one, and what stands under the root lies between two odd squares: no height is a tie
 pub record Between (m y : ℕ) : Type 0 where

@@ -1,14 +1,15 @@
 // The heights of a circle and the chord rule.
+use numbers::less;
 ghost use mathlib.Core.Path.{_≡_};
-ghost use Prim.Native.Nat.{ℕ, _+_, _*_, _-_, _^_, _≤_, _<_, min};
-ghost use lib.ListN.{getD};
+ghost use Prim.Native.Nat.{ℕ, _+_, _*_, _-_, _≤_, _<_, min};
+ghost use lib.ListN.{length, getD};
 ghost use Rattle.numbers.specs.Coordinate.{inRange};
 ghost use Rattle.numbers.specs.inner.Offset.{offsetMost};
 ghost use Rattle.shapes.specs.Limits.{shapeRefusal, radiusMost};
 ghost use Rattle.shapes.specs.declared.Shape.the-variants.{Disc as asDisc, Ring as asRing};
 ghost use mathlib.Core.Bool.{true};
 ghost use Rattle.coverage.specs.Circle.{halfRoot, heightOf, chords};
-ghost use Rattle.coverage.specs.inner.Circle.{apart, Narrowed};
+ghost use Rattle.coverage.specs.inner.Circle.{apart, Held, Narrowed};
 ghost use Rattle.coverage.specs.Coverage.{ratioOf};
 
 // The whole number nearest to half the square root of m, searched downwards from y.
@@ -27,39 +28,21 @@ fn half_root(y: u64, m: u64) -> u64
     t
 }
 
-// y less the last step, since heights fall faster and faster; one is given back for rounding.
-fn next_guess(y: u64, step: u64) -> u64
-    ensures { λ r. ⌜ r ≤ y ⌝ }
-{
-    if step == 0 {
-        return y;
-    }
-    if y < step {
-        return y;
-    }
-    y - step + 1
-}
-
-// t, lowered by Newton's rule while it is far above half the square root of m.
-fn lowered(t: u64, m: u64) -> u64
-    requires { ⌜ (t ≤ 65536) × (m < 2 ^ 40) ⌝ }
+// t, brought down to near the root of quarter by one turn of Newton's rule, rounded.
+fn nearer(t: u64, quarter: u64) -> u64
+    requires { ⌜ t ≤ 65536 ⌝ }
     ensures { λ r. ⌜ r ≤ t ⌝ }
 {
-    let quarter = m / 4;
-    let mut z = t;
-    while quarter + 8 * z < z * z {
-        z = (z * z + quarter) / (2 * z) + 1;
-    }
-    z
+    t - less(t * t + t, quarter) / (2 * t + 1)
 }
 
-// Where the search for the next height starts. Any start would do that is not too low: the guess is tested, and y, which is above every
-// later height, stands in for one that is.
+// Where the search for the next height starts: at y less the last step, which is not too low since heights fall faster and faster,
+// brought nearer. Any start would do that is not too low: it is tested, and y, above every later height, stands in for one that is.
 fn search_start(y: u64, step: u64, m: u64) -> u64
     requires { ⌜ (y ≤ 65536) × (m < (2 * y + 1) * (2 * y + 1)) ⌝ }
     ensures { λ r. ⌜ (r ≤ y) × (m < (2 * r + 1) * (2 * r + 1)) ⌝ }
 {
-    let t = lowered(next_guess(y, step), m);
+    let t = nearer(less(y, step), m / 4);
     let odd = 2 * t + 1;
     if m < odd * odd { t } else { y }
 }
@@ -70,12 +53,11 @@ const RADIUS_MOST: usize = shapes::RADIUS_MOST as usize;
 // How many heights are held: those at 0 to one above the greatest radius.
 pub const HEIGHTS: usize = RADIUS_MOST + 2;
 
-// The heights of the circle of a radius.
-pub fn heights(radius: u64) -> [u32; HEIGHTS]
-    requires { ⌜ radius ≤ radiusMost ⌝ }
-    ensures { λ hs. ⌜ ((k : ℕ) → getD hs k 0 ≡ heightOf radius k) ⌝ }
+// Fills in the heights of the circle of a radius, in an array of zeros.
+pub fn heights(hs: &mut [u32], radius: u64)
+    requires { ⌜ (radius ≤ radiusMost) × (radius + 2 ≤ length (now hs)) × ((k : ℕ) → getD (now hs) k 0 ≡ 0) ⌝ }
+    ensures { λ r. ⌜ Held radius (now (hs .entry)) (now (hs .exit)) ⌝ }
 {
-    let mut hs = [0u32; HEIGHTS];
     let mut y = 256 * radius;
     let mut step: u64 = 0;
     let mut k: u64 = 0;
@@ -87,7 +69,6 @@ pub fn heights(radius: u64) -> [u32; HEIGHTS]
         y = next;
         k += 1;
     }
-    hs
 }
 
 // What a root is known to lie between: at least low, and below high.
@@ -136,20 +117,12 @@ pub fn apart_of(c: u64, x: u64) -> u64
     if c <= x { x - c } else { c - x - 1 }
 }
 
-// A height less 256·n, brought into 0 to 256.
+// A height less 256·n, brought into 0 to 256: 256 less what it lacks, so that nothing has to be tested.
 pub fn chord_of(height: u64, n: u64) -> u64
     requires { ⌜ n ≤ 65535 ⌝ }
     ensures { λ r. ⌜ (r ≡ min (height - 256 * n) 256) × (r ≤ 256) ⌝ }
 {
-    let base = 256 * n;
-    if height <= base {
-        return 0;
-    }
-    if height - base < 256 {
-        height - base
-    } else {
-        256
-    }
+    256 - less(256, less(height, 256 * n))
 }
 
 // The coverage over 512 by a disc, at the distances a and b from its centre.

@@ -1,17 +1,29 @@
 -- The arrays hold the heights of the two circles, and the ring has nothing outside its box.
+use mathlib.Core.Path.{_≡_}
+use Prim.Native.Nat.{_+_}
 use native.Mathlib.Omega.{arith}
+use Rattle.shapes.specs.Limits.{radiusMost}
+use Rattle.coverage.specs.Circle.{heightOf}
+use Rattle.coverage.proofs.Height.{zeros}
 use Rattle.circles.specs.inner.Row.{at}
 use Rattle.circles.proofs.Box.{held, boxed-drawn, boxed-empty, boxed-ready}
 use borrow.Author.Needs.{needs}
 use Rattle.circles.proofs.draw_between.Statement.{statement}
 use Rattle.circles.proofs.draw_between.Tie as tie
 
--- the states behind the box and behind the heights
+-- the states behind the box and behind the outer heights
 abbrev boxed : tie.Else2 → tie.After-box-of
 boxed c = c .before .before .before .before
 
-abbrev held-heights : tie.After-heights2 → tie.Else2
-held-heights c = c .before .before
+abbrev filled : tie.After-heights2 → tie.After-heights
+filled c = c .before .before .before
+
+-- the two arrays hold the heights
+outer-held : (c : tie.After-heights) → at (c .heights .last .0) ≡ heightOf (boxed (c .before .before) .before .before .args .radius)
+outer-held c = held (c .heights .last .0) _ (c .heights .ensures .each)
+
+inner-held : (c : tie.After-heights2) → at (c .heights2 .last .0) ≡ heightOf (boxed (filled c .before .before) .before .before .args .ring .hole)
+inner-held c = held (c .heights2 .last .0) _ (c .heights2 .ensures .each)
 
 returns : tie.Need-returns
 returns c =
@@ -27,26 +39,28 @@ returns-2 c =
     let test = rw (box .box-of .ensures) at (c .if2 .taken) in
     boxed-empty (s .args .view) (s .args .ring) (s .args .radius) (s .pre .0) _ _ _ (λ x y i. omega arith)
 
+heights-requires : tie.Need-heights-requires
+heights-requires c κs = (omega arith, omega arith, zeros (radiusMost + 2))
+
+heights-requires-2 : tie.Need-heights-requires-2
+heights-requires-2 c κs = (omega arith, omega arith, zeros (radiusMost + 2))
+
 draw-rows-requires : tie.Need-draw-rows-requires
 draw-rows-requires c κs =
-    let hs = c .before .before .before in
-    let box = boxed (held-heights hs) in
+    let hs = c .before .before .before .before in
+    let box = boxed (filled hs .before .before) in
     let s = box .before .before in
-    let outer = held (hs .before .heights .result) (s .args .radius) (hs .before .heights .ensures) in
-    let inner = held (hs .heights2 .result) (s .args .ring .hole) (hs .heights2 .ensures) in
-    rw (box .box-of .ensures, outer, inner)
+    rw (box .box-of .ensures, outer-held (filled hs), inner-held hs)
     (boxed-ready (s .args .view) (s .args .ring) (s .args .radius) (s .pre .0) (omega arith) (omega arith) (omega arith))
 
 returns-3 : tie.Need-returns-3
 returns-3 c =
     let done = c .before .before in
-    let hs = done .before .before .before .before in
-    let box = boxed (held-heights hs) in
+    let hs = done .before .before .before .before .before in
+    let box = boxed (filled hs .before .before) in
     let s = box .before .before in
-    let outer = held (hs .before .heights .result) (s .args .radius) (hs .before .heights .ensures) in
-    let inner = held (hs .heights2 .result) (s .args .ring .hole) (hs .heights2 .ensures) in
     boxed-drawn (s .args .view) (s .args .ring) (s .args .radius) (s .pre .0) _
-    (rw (box .box-of .ensures, outer, inner) at (done .draw-rows .ensures))
+    (rw (box .box-of .ensures, outer-held (filled hs), inner-held hs) at (done .draw-rows .ensures))
 
 pub draw-between-spec : {M : Type 1} → statement M
 draw-between-spec =
@@ -55,8 +69,10 @@ draw-between-spec =
     (λ c κs. search needs)
     returns
     returns-2
-    (λ c κs. search needs)
-    (λ c κs. search needs)
+    (λ c. search needs)
+    heights-requires
+    (λ c. search needs)
+    heights-requires-2
     draw-rows-requires
     (λ c. search needs)
     returns-3)

@@ -1,15 +1,18 @@
--- Distances from a circle's centre, and the search for a height.
+-- Distances from a circle's centre, and the search for its heights.
+use mathlib.Core.Path.{_≡_}
+use mathlib.Core.List.{List}
 use Prim.Native.Nat.{ℕ, _+_, _-_, _≤_, _<_}
-use Rattle.shapes.specs.Limits.{radiusMost}
-use Rattle.coverage.specs.Circle.{halfRoot}
-
--- how many heights are held: those at 0 to one above the greatest radius
-abbrev pub heightsHeld : ℕ
-heightsHeld = radiusMost + 2
+use lib.ListN.{length, getD}
+use Rattle.coverage.specs.Circle.{halfRoot, heightOf}
 
 -- how far a pixel is from the centre along one axis, by the offsets x and c: `folded (x − c)`
 abbrev pub apart : ℕ → ℕ → ℕ
 apart c x = (x - c) + (c - x - 1)
+
+-- an array of zeros, filled with the heights of the circle of radius R
+pub record Held (R : ℕ) (zeros hs : List ℕ) : Type 0 where
+  pub each : (k : ℕ) → getD hs k 0 ≡ heightOf R k
+  pub size : length hs ≡ length zeros
 
 -- a search for half a root by halves: what holds it stays around it, and gets narrower
 pub record Around (b m low high : ℕ) : Type 0 where

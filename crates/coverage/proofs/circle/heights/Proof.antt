@@ -1,14 +1,13 @@
 -- The first k heights are held, the rest are 0, and y is not below the next one.
 use mathlib.Core.Path.{_≡_, refl, sym, _∙_}
 use mathlib.Core.Logic.{⊎-elim}
-use Prim.Native.Nat.{ℕ, zero, suc, _+_, _-_, _*_, _≤_, _<_}
+use Prim.Native.Nat.{ℕ, _+_, _-_, _*_, _≤_, _<_}
 use native.Mathlib.Omega.{arith}
-use lib.ListN.{length, getD, set, replicate, length-set}
+use lib.ListN.{length, getD, set, length-set}
 use lib.Seq.{getD-set-same, getD-set-other}
 use borrow.Author.Count.{below-more}
 use borrow.Author.Needs.{needs}
 use Rattle.shapes.specs.Limits.{radiusMost}
-use Rattle.coverage.specs.inner.Circle.{heightsHeld}
 use Rattle.numbers.proofs.Order.{lt-or-le, square-le}
 use Rattle.coverage.specs.Circle.{halfRoot, heightOf}
 use Rattle.coverage.proofs.Height.{half-root-le, half-root-from, half-root-high, height-top, height-beyond}
@@ -16,21 +15,16 @@ use Rattle.coverage.proofs.circle.heights.Statement.{statement}
 use Rattle.coverage.proofs.circle.heights.Tie as tie
 
 abbrev Inv-loop : tie.InvT-loop
-Inv-loop radius hs₀ y₀ step₀ k₀ hs y step k =
+Inv-loop hs₀ radius y₀ step₀ k₀ hs y step k =
     (k ≤ radius)
     × (y ≤ 256 * radius)
     × (262144 * (radius * radius - k * k) < (2 * y + 1) * (2 * y + 1))
-    × (length hs ≡ heightsHeld)
+    × (length hs ≡ length hs₀)
     × ((j : ℕ) → j < k → getD hs j 0 ≡ heightOf radius j)
     × ((j : ℕ) → k ≤ j → getD hs j 0 ≡ 0)
 
 abbrev μ-loop : tie.MeasureT-loop
-μ-loop radius hs₀ y₀ step₀ k₀ hs y step k = radius - k
-
-zeros : (n j : ℕ) → _≡_ {A = ℕ} (getD (replicate n 0) j 0) 0
-zeros zero j = refl
-zeros (suc n) zero = refl
-zeros (suc n) (suc j) = zeros n j
+μ-loop hs₀ radius y₀ step₀ k₀ hs y step k = radius - k
 
 -- next is the height at k: not above y, and not below the height at k + 1
 record Found (R k y next : ℕ) : Type 0 where
@@ -49,24 +43,24 @@ found R k y start h₁ h₂ h₃ =
       above = omega (arith, half-root-high start m h₃);
     }
 
-here : (c : tie.After-half-root Inv-loop μ-loop) → let l = c .before .before .before in Found (l .before .args .radius) (l .loop .k) (l .loop .y) (c .half-root .result)
+here : (c : tie.After-half-root Inv-loop μ-loop) → let l = c .before .before .before in Found (l .before .before .args .radius) (l .loop .k) (l .loop .y) (c .half-root .result)
 here c =
     let l = c .before .before .before .loop in
     let s = c .before .search-start in
-    rw (c .half-root .ensures) (found (c .before .before .before .before .args .radius) (l .k) (l .y) (s .result) (l .inv .1) (s .ensures .0) (s .ensures .1))
+    rw (c .half-root .ensures) (found (c .before .before .before .before .before .args .radius) (l .k) (l .y) (s .result) (l .inv .1) (s .ensures .0) (s .ensures .1))
 
 loop-holds : tie.Need-loop-holds Inv-loop μ-loop
 loop-holds c = (
   omega arith,
   omega arith,
-  height-top (c .args .radius) 0,
+  height-top (c .before .args .radius) 0,
   refl,
   λ j h. absurd (omega arith),
-  λ j h. zeros heightsHeld j,
+  λ j h. c .before .pre .2 j,
 )
 
 mul-m : tie.Need-mul-m Inv-loop μ-loop
-mul-m c = omega (arith, square-le {a = c .before .before .args .radius} {b = radiusMost} (omega arith))
+mul-m c = omega (arith, square-le {a = c .before .before .before .args .radius} {b = radiusMost} (omega arith))
 
 mul-m-2 : tie.Need-mul-m-2 Inv-loop μ-loop
 mul-m-2 c = omega (arith, square-le {a = c .before .loop .k} {b = radiusMost} (omega arith))
@@ -75,7 +69,7 @@ sub-m : tie.Need-sub-m Inv-loop μ-loop
 sub-m c = square-le (omega arith)
 
 mul-m-3 : tie.Need-mul-m-3 Inv-loop μ-loop
-mul-m-3 c = omega (arith, square-le {a = c .before .before .args .radius} {b = radiusMost} (omega arith))
+mul-m-3 c = omega (arith, square-le {a = c .before .before .before .args .radius} {b = radiusMost} (omega arith))
 
 cast-hs : tie.Need-cast-hs Inv-loop μ-loop
 cast-hs c = omega (arith, here c .most)
@@ -85,7 +79,7 @@ sub-step c = here c .most
 
 loop-again : tie.Need-loop-again Inv-loop μ-loop
 loop-again c =
-    let r = c .before .before .before .before .args .radius in
+    let r = c .before .before .before .before .before .args .radius in
     let l = c .before .before .before .loop in
     let y = c .half-root .result in (
       omega arith,
@@ -98,15 +92,21 @@ loop-again c =
       λ j h. getD-set-other (l .hs) (l .k) j y 0 (λ q. omega arith) ∙ l .inv .5 j (omega arith),
     )
 
+same-length : tie.Need-same-length Inv-loop μ-loop
+same-length c = c .before .loop .inv .3
+
 returns : tie.Need-returns Inv-loop μ-loop
 returns c =
-    λ k.
-    let r = c .before .before .args .radius in
+    let r = c .before .before .before .args .radius in
     let l = c .before .loop in
-    ⊎-elim (λ h. l .inv .4 k (omega arith)) (λ h. l .inv .5 k (omega arith) ∙ sym (height-beyond r k h)) (lt-or-le k r)
+    record {
+      each = λ k.
+          ⊎-elim (λ h. l .inv .4 k (omega arith)) (λ h. l .inv .5 k (omega arith) ∙ sym (height-beyond r k h)) (lt-or-le k r);
+      size = l .inv .3;
+    }
 
 pub heights-spec : {M : Type 1} → statement M
 heights-spec =
     tie.close
     (tie.spec Inv-loop μ-loop (λ c. search needs) loop-holds mul-m mul-m-2 sub-m mul-m-3 (λ c. search needs) (λ c. search needs) cast-hs
-    (λ c. search needs) (λ c. search needs) sub-step (λ c. search needs) (λ c. search needs) loop-again returns)
+    (λ c. search needs) (λ c. search needs) sub-step (λ c. search needs) (λ c. search needs) loop-again same-length returns)

@@ -6,13 +6,10 @@ use borrow.Author.Needs.{needs}
 use Rattle.coverage.proofs.circle.search_start.Statement.{statement}
 use Rattle.coverage.proofs.circle.search_start.Tie as tie
 
-lowered-requires : tie.Need-lowered-requires
-lowered-requires c κs = (omega arith, omega (arith, square-le {a = 2 * c .before .args .y + 1} {b = 131073} (omega arith)))
-
 mul-if1 : tie.Need-mul-if1
-mul-if1 c = omega (arith, square-le {a = 2 * c .lowered .result + 1} {b = 131073} (omega arith))
+mul-if1 c = omega (arith, square-le {a = 2 * c .nearer .result + 1} {b = 131073} (omega arith))
 
 pub search-start-spec : {M : Type 1} → statement M
 search-start-spec =
     tie.close
-    (tie.spec (λ c. search needs) lowered-requires (λ c. search needs) (λ c. search needs) mul-if1 (λ c. search needs) (λ c. search needs))
+    (tie.spec (λ c. search needs) (λ c. search needs) (λ c. search needs) (λ c. search needs) mul-if1 (λ c. search needs) (λ c. search needs))
