@@ -1,3 +1,4 @@
 -- Laws of one shape on a page.
 pub mod Refusals
 pub mod Touches
+pub mod OfKind

@@ -1,6 +1,9 @@
 // One shape on a lent page.
 use page::View;
 use shapes::Clip;
+use shapes::Disc;
+use shapes::Line;
+use shapes::Ring;
 use shapes::Shape;
 ghost use mathlib.Core.Path.{_≡_};
 ghost use lib.ListN.{length};
@@ -18,9 +21,9 @@ pub enum Outcome {
     Refused(u8),
 }
 
-// The first refusal of a shape on a page of size bytes, or 0.
-fn draw_refusal(w: u16, h: u16, size: usize, clip: Clip, shape: Shape) -> u8
-    ensures { λ r. ⌜ r ≡ drawRefusal w h size clip shape ⌝ }
+// The first refusal of a shape on a page of size bytes, or 0; own is the shape's.
+fn draw_refusal(w: u16, h: u16, size: usize, clip: Clip, own: u8) -> u8
+    ensures { λ r. ⌜ ((shape : Shape) → own ≡ shapeRefusal shape → r ≡ drawRefusal w h size clip shape) ⌝ }
 {
     let page_refusal = shapes::size_refusal(w, h);
     if 0 < page_refusal {
@@ -33,7 +36,7 @@ fn draw_refusal(w: u16, h: u16, size: usize, clip: Clip, shape: Shape) -> u8
     if 0 < clip_refusal {
         return clip_refusal;
     }
-    shapes::shape_refusal(shape)
+    own
 }
 
 // Draws a lawful shape; hands back how many pixels it touched.
@@ -62,15 +65,54 @@ pub fn view_of(w: u16, h: u16, clip: Clip) -> View
     }
 }
 
-// Draws a shape inside a clip on a page of w by h, or refuses it and leaves the page as it was.
-pub fn draw_shape(page: &mut [u8], w: u16, h: u16, clip: Clip, level: u8, shape: Shape) -> Outcome
-    ensures { λ r. ⌜ r ≡ shapeOutcome w h (length (now (page .entry))) clip shape ⌝ }
-    ensures { λ r. ⌜ now (page .exit) ≡ shapePage w h clip level shape (now (page .entry)) ⌝ }
+// Each kind of shape is drawn so inside a clip on a page of w by h, or refused, and then the page is left as it was.
+pub fn draw_line(page: &mut [u8], w: u16, h: u16, clip: Clip, level: u8, line: Line) -> Outcome
+    ensures { λ r. ⌜ r ≡ shapeOutcome w h (length (now (page .entry))) clip (Shape.Line line) ⌝ }
+    ensures { λ r. ⌜ now (page .exit) ≡ shapePage w h clip level (Shape.Line line) (now (page .entry)) ⌝ }
 {
-    let refusal = draw_refusal(w, h, page.len(), clip, shape);
+    let own = shapes::line_refusal(line);
+    let refusal = draw_refusal(w, h, page.len(), clip, own);
     if 0 < refusal {
         return Outcome::Refused(refusal);
     }
     let view = view_of(w, h, clip);
-    Outcome::Touched(draw_lawful(page, view, level, shape))
+    Outcome::Touched(lines::draw_line(page, view, line, level))
+}
+
+pub fn draw_disc(page: &mut [u8], w: u16, h: u16, clip: Clip, level: u8, disc: Disc) -> Outcome
+    ensures { λ r. ⌜ r ≡ shapeOutcome w h (length (now (page .entry))) clip (Shape.Disc disc) ⌝ }
+    ensures { λ r. ⌜ now (page .exit) ≡ shapePage w h clip level (Shape.Disc disc) (now (page .entry)) ⌝ }
+{
+    let own = shapes::disc_refusal(disc);
+    let refusal = draw_refusal(w, h, page.len(), clip, own);
+    if 0 < refusal {
+        return Outcome::Refused(refusal);
+    }
+    let view = view_of(w, h, clip);
+    Outcome::Touched(circles::draw_disc(page, view, disc, level))
+}
+
+pub fn draw_ring(page: &mut [u8], w: u16, h: u16, clip: Clip, level: u8, ring: Ring) -> Outcome
+    ensures { λ r. ⌜ r ≡ shapeOutcome w h (length (now (page .entry))) clip (Shape.Ring ring) ⌝ }
+    ensures { λ r. ⌜ now (page .exit) ≡ shapePage w h clip level (Shape.Ring ring) (now (page .entry)) ⌝ }
+{
+    let own = shapes::ring_refusal(ring);
+    let refusal = draw_refusal(w, h, page.len(), clip, own);
+    if 0 < refusal {
+        return Outcome::Refused(refusal);
+    }
+    let view = view_of(w, h, clip);
+    Outcome::Touched(circles::draw_ring(page, view, ring, level))
+}
+
+// Draws a shape of any kind.
+pub fn draw_shape(page: &mut [u8], w: u16, h: u16, clip: Clip, level: u8, shape: Shape) -> Outcome
+    ensures { λ r. ⌜ r ≡ shapeOutcome w h (length (now (page .entry))) clip shape ⌝ }
+    ensures { λ r. ⌜ now (page .exit) ≡ shapePage w h clip level shape (now (page .entry)) ⌝ }
+{
+    match shape {
+        Shape::Line(line) => draw_line(page, w, h, clip, level, line),
+        Shape::Disc(disc) => draw_disc(page, w, h, clip, level, disc),
+        Shape::Ring(ring) => draw_ring(page, w, h, clip, level, ring),
+    }
 }

@@ -1,8 +1,11 @@
 // One shape on a lent page.
 use crate::taken::GivenClip;
 use crate::taken::GivenShape;
-use crate::taken::Taken;
-use shapes::Shape;
+use crate::taken::clip_of;
+use crate::taken::disc_of;
+use crate::taken::line_of;
+use crate::taken::ring_of;
+use crate::taken::side;
 ghost use mathlib.Core.Path.{_≡_};
 ghost use lib.ListN.{length};
 ghost use Rattle.greystroke.specs.Taken.{takenOf};
@@ -34,20 +37,36 @@ fn draw_answer(outcome: draw::Outcome) -> DrawAnswer
     }
 }
 
-// A known shape is drawn so.
-fn draw(page: &mut [u8], w: u32, h: u32, clip: GivenClip, level: u8, shape: Shape) -> DrawAnswer
-    ensures { λ r. ⌜ r ≡ drawn (shapeDrawn w h (length (now (page .entry))) clip (Taken.Known shape)) ⌝ }
-    ensures { λ r. ⌜ now (page .exit) ≡ pageDrawn w h clip level (Taken.Known shape) (now (page .entry)) ⌝ }
+// Each kind is drawn by a function of its own, so that no shape has to be told apart again below.
+fn draw(
+    page: &mut [u8],
+    w: u32,
+    h: u32,
+    clip: GivenClip,
+    level: u8,
+    shape: GivenShape,
+) -> draw::Outcome
+    ensures { λ r. ⌜ r ≡ shapeDrawn w h (length (now (page .entry))) clip (takenOf shape) ⌝ }
+    ensures { λ r. ⌜ now (page .exit) ≡ pageDrawn w h clip level (takenOf shape) (now (page .entry)) ⌝ }
 {
-    let kept = crate::taken::clip_of(clip);
-    draw_answer(draw::draw_shape(
-        page,
-        crate::taken::side(w),
-        crate::taken::side(h),
-        kept,
-        level,
-        shape,
-    ))
+    let width = side(w);
+    let height = side(h);
+    let kept = clip_of(clip);
+    let kind = shape.kind;
+    let numbers = shape.numbers;
+    match kind {
+        3 | 4 => draw::draw_line(
+            page,
+            width,
+            height,
+            kept,
+            level,
+            line_of(kind == 3, numbers),
+        ),
+        5 => draw::draw_disc(page, width, height, kept, level, disc_of(numbers)),
+        6 => draw::draw_ring(page, width, height, kept, level, ring_of(numbers)),
+        _ => draw::Outcome::Refused(4),
+    }
 }
 
 // Draws a shape inside a clip.
@@ -63,8 +82,5 @@ pub extern "C" fn greystroke_draw_shape(
     ensures { λ r. ⌜ r ≡ drawn (shapeDrawn w h (length (now (page .entry))) clip (takenOf shape)) ⌝ }
     ensures { λ r. ⌜ now (page .exit) ≡ pageDrawn w h clip level (takenOf shape) (now (page .entry)) ⌝ }
 {
-    match crate::taken::taken_of(shape) {
-        Taken::Known(known) => draw(page, w, h, clip, level, known),
-        Taken::Unknown => draw_answer(draw::Outcome::Refused(4)),
-    }
+    draw_answer(draw(page, w, h, clip, level, shape))
 }

@@ -82,7 +82,7 @@ pub(crate) fn clip_of(given: GivenClip) -> Clip
     }
 }
 
-fn line_of(exact: bool, numbers: [i32; 6]) -> Line
+pub(crate) fn line_of(exact: bool, numbers: [i32; 6]) -> Line
     ensures { λ r. ⌜ r ≡ lineOf exact numbers ⌝ }
 {
     Line {
@@ -94,7 +94,7 @@ fn line_of(exact: bool, numbers: [i32; 6]) -> Line
     }
 }
 
-fn disc_of(numbers: [i32; 6]) -> Disc
+pub(crate) fn disc_of(numbers: [i32; 6]) -> Disc
     ensures { λ r. ⌜ r ≡ discOf numbers ⌝ }
 {
     Disc {
@@ -104,7 +104,7 @@ fn disc_of(numbers: [i32; 6]) -> Disc
     }
 }
 
-fn ring_of(numbers: [i32; 6]) -> Ring
+pub(crate) fn ring_of(numbers: [i32; 6]) -> Ring
     ensures { λ r. ⌜ r ≡ ringOf numbers ⌝ }
 {
     Ring {

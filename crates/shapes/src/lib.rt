@@ -7,12 +7,13 @@ ghost use Rattle.shapes.specs.inner.Offsets.{pointOf, endsOf};
 // The greatest radius.
 pub const RADIUS_MOST: u16 = 255;
 
+// The ends lie together, so that they are moved as one number.
 pub struct Line {
-    pub exact: bool,
     pub x0: i16,
     pub y0: i16,
     pub x1: i16,
     pub y1: i16,
+    pub exact: bool,
 }
 
 pub struct Disc {
@@ -131,7 +132,7 @@ pub fn clip_refusal(w: u16, h: u16, clip: Clip) -> u8
 }
 
 // The first refusal of a line, 7 or 9, or 0.
-fn line_refusal(line: Line) -> u8
+pub fn line_refusal(line: Line) -> u8
     ensures { λ r. ⌜ r ≡ shapeRefusal (Shape.Line line) ⌝ }
 {
     let e = ends_of(line);
@@ -157,7 +158,7 @@ fn line_refusal(line: Line) -> u8
 }
 
 // The first refusal of a disc, 7 or 10, or 0.
-fn disc_refusal(disc: Disc) -> u8
+pub fn disc_refusal(disc: Disc) -> u8
     ensures { λ r. ⌜ r ≡ shapeRefusal (Shape.Disc disc) ⌝ }
 {
     let p = point_of(disc.x, disc.y);
@@ -177,7 +178,7 @@ fn disc_refusal(disc: Disc) -> u8
 }
 
 // The first refusal of a ring: that of its disc, then 11, or 0.
-fn ring_refusal(ring: Ring) -> u8
+pub fn ring_refusal(ring: Ring) -> u8
     ensures { λ r. ⌜ r ≡ shapeRefusal (Shape.Ring ring) ⌝ }
 {
     let outer = disc_refusal(Disc {

@@ -7,6 +7,7 @@ use native.Mathlib.Omega.{arith}
 use borrow.Author.Tests.{lt-ltb, le-ltb}
 use lib.Dec.{ltb}
 use Rattle.shapes.specs.Limits.{sizeRefusal, clipRefusal, shapeRefusal}
+use Rattle.shapes.specs.declared.Shape.{Shape}
 use Rattle.draw.specs.Draw.{drawRefusal}
 use Rattle.draw.proofs.Refusals.{draw-refusals}
 use borrow.Author.Needs.{needs}
@@ -21,15 +22,15 @@ abbrev clipped : tie.Else3 → tie.Else2
 clipped c = c .before .before
 
 -- the definition, test by test
-tests : (c : tie.Start)
+tests : (c : tie.Start) (s : Shape)
     → let a = c .args in
-    drawRefusal (a .w) (a .h) (a .size) (a .clip) (a .shape)
+    drawRefusal (a .w) (a .h) (a .size) (a .clip) s
     ≡ cond (ltb 0 (sizeRefusal (a .w) (a .h))) (sizeRefusal (a .w) (a .h))
-    (cond (ltb (a .size) (a .w * a .h)) 21 (cond (ltb 0 (clipRefusal (a .w) (a .h) (a .clip))) (clipRefusal (a .w) (a .h) (a .clip)) (shapeRefusal (a .shape))))
-tests c = let a = c .args in draw-refusals (a .w) (a .h) (a .size) (a .clip) (a .shape)
+    (cond (ltb (a .size) (a .w * a .h)) 21 (cond (ltb 0 (clipRefusal (a .w) (a .h) (a .clip))) (clipRefusal (a .w) (a .h) (a .clip)) (shapeRefusal s)))
+tests c s = let a = c .args in draw-refusals (a .w) (a .h) (a .size) (a .clip) s
 
 returns : tie.Need-returns
-returns c = simp (tests (c .before .before), ← c .before .size-refusal .ensures, lt-ltb _ _ (c .if1 .taken))
+returns c = λ s e. simp (tests (c .before .before) s, ← c .before .size-refusal .ensures, lt-ltb _ _ (c .if1 .taken))
 
 mul-if2 : tie.Need-mul-if2
 mul-if2 c =
@@ -37,16 +38,16 @@ mul-if2 c =
     omega (arith, mul-le-mul {n₁ = s .args .w} {m₁ = s .args .h} {n₂ = 65535} {m₂ = 65535} (omega (arith, s .fits .w)) (omega (arith, s .fits .h)))
 
 returns-2 : tie.Need-returns-2
-returns-2 c =
+returns-2 c = λ s e.
     let size = c .before .before in
-    simp (tests (size .before), ← size .size-refusal .ensures, le-ltb _ _ (c .before .if1 .left), lt-ltb _ _ (c .if2 .taken))
+    simp (tests (size .before) s, ← size .size-refusal .ensures, le-ltb _ _ (c .before .if1 .left), lt-ltb _ _ (c .if2 .taken))
 
 returns-3 : tie.Need-returns-3
-returns-3 c =
+returns-3 c = λ s e.
     let room = c .before .before in
     let size = sized room in
     simp (
-      tests (size .before),
+      tests (size .before) s,
       ← size .size-refusal .ensures,
       le-ltb _ _ (room .before .if1 .left),
       le-ltb _ _ (room .if2 .left),
@@ -55,18 +56,17 @@ returns-3 c =
     )
 
 returns-4 : tie.Need-returns-4
-returns-4 c =
-    let clip = c .before in
-    let room = clipped clip in
+returns-4 c = λ s e.
+    let room = clipped c in
     let size = sized room in
     simp (
-      tests (size .before),
+      tests (size .before) s,
       ← size .size-refusal .ensures,
       le-ltb _ _ (room .before .if1 .left),
       le-ltb _ _ (room .if2 .left),
-      ← clip .before .clip-refusal .ensures,
-      le-ltb _ _ (clip .if3 .left),
-    ) (c .shape-refusal .ensures)
+      ← c .before .clip-refusal .ensures,
+      le-ltb _ _ (c .if3 .left),
+    ) e
 
 pub draw-refusal-spec : {M : Type 1} → statement M
 draw-refusal-spec =
@@ -78,5 +78,4 @@ draw-refusal-spec =
     returns-2
     (λ c κs. search needs)
     returns-3
-    (λ c κs. search needs)
     returns-4)

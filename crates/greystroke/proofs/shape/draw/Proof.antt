@@ -1,23 +1,95 @@
--- The library's answer in C's form, and its page, by the numbers that are taken.
-use mathlib.Core.Path.{_∙_, ap}
-use Rattle.greystroke.specs.Answers.{drawn, shapeDrawn, pageDrawn}
+-- Each kind is drawn by the library as the shape that is taken, and a number of no kind is refused.
+use mathlib.Core.Path.{_≡_, refl}
+use mathlib.Core.List.{List}
+use mathlib.Core.Logic.{⊎-elim}
+use Prim.Native.Nat.{ℕ, _≤_, _<_}
+use native.Mathlib.Omega.{arith}
+use lib.Dec.{eqb}
+use lib.IntN.{ℤ}
+use borrow.Author.Tests.{ne-eqb}
+use Rattle.numbers.proofs.Order.{lt-or-le}
+use Rattle.shapes.specs.declared.Shape.the-variants.{Line as line}
+use Rattle.greystroke.specs.Taken.{lineOf, takenBy, takenOf}
+use Rattle.greystroke.specs.Answers.{shapeDrawn, pageDrawn}
+use Rattle.greystroke.specs.declared.taken.Taken.the-variants.{Known, Unknown}
 use borrow.Author.Needs.{needs}
 use Rattle.greystroke.proofs.shape.draw.Statement.{statement}
 use Rattle.greystroke.proofs.shape.draw.Tie as tie
 
+-- the kinds 3 and 4 are lines
+line-taken : (k : ℕ) (ns : List ℤ) → 3 ≤ k → k < 5 → takenBy k ns ≡ Known (line (lineOf (eqb k 3) ns))
+line-taken k ns h j =
+    ⊎-elim (λ g. let e : k ≡ 3 = omega arith in rw e) (λ g. let e : k ≡ 4 = omega arith in rw e) (lt-or-le k 4)
+
+none-taken : (k : ℕ) (ns : List ℤ) → (k ≡ 3 → ⊥) → (k ≡ 4 → ⊥) → (k ≡ 5 → ⊥) → (k ≡ 6 → ⊥) → takenBy k ns ≡ Unknown
+none-taken k ns a b c d = simp (ne-eqb k 3 a, ne-eqb k 4 b, ne-eqb k 5 c, ne-eqb k 6 d)
+
+-- a disc
 returns : tie.Need-returns
-unfolding shapeDrawn pageDrawn
+unfolding takenOf shapeDrawn pageDrawn
 returns c =
-    let call = c .before .before .before in
-    let two = call .before in
-    let one = two .before in
-    let shape = rw (one .before .before .clip-of .ensures, one .side .ensures, two .side2 .ensures) at (call .draw-shape .ensures) in
-    (c .draw-answer .ensures ∙ ap drawn (shape .0), shape .1)
+    let call = c .before .before in
+    let taken = call .before in
+    let kind = taken .before .before in
+    let clip = kind .before .before in
+    let sides = clip .before in
+    rw (kind .match .keys1)
+    (rw (taken .disc-of .ensures, clip .clip-of .ensures, sides .side2 .ensures, sides .before .side .ensures) at (call .draw-disc .ensures))
+
+-- a ring
+returns-2 : tie.Need-returns-2
+unfolding takenOf shapeDrawn pageDrawn
+returns-2 c =
+    let call = c .before .before in
+    let taken = call .before in
+    let kind = taken .before .before in
+    let clip = kind .before .before in
+    let sides = clip .before in
+    rw (kind .match .keys2)
+    (rw (taken .ring-of .ensures, clip .clip-of .ensures, sides .side2 .ensures, sides .before .side .ensures) at (call .draw-ring .ensures))
+
+-- a line
+returns-3 : tie.Need-returns-3
+unfolding takenOf shapeDrawn pageDrawn
+returns-3 c =
+    let call = c .before .before in
+    let taken = call .before in
+    let kind = taken .before .before in
+    let clip = kind .before .before .before .before in
+    let sides = clip .before in
+    let given = sides .before .before .before .args .shape in
+    rw (line-taken (given .kind) (given .numbers) (kind .before .if1 .left) (kind .if2 .taken))
+    (rw (taken .line-of .ensures, clip .clip-of .ensures, sides .side2 .ensures, sides .before .side .ensures) at (call .draw-line .ensures))
+
+-- no shape
+returns-4 : tie.Need-returns-4
+unfolding takenOf shapeDrawn pageDrawn
+returns-4 c =
+    let given = c .before .before .before .before .before .before .before .args .shape in
+    rw (none-taken (given .kind) (given .numbers) (λ e. omega (arith, c .if1 .taken)) (λ e. omega (arith, c .if1 .taken))
+    (λ e. omega (arith, c .if1 .taken)) (λ e. omega (arith, c .if1 .taken)))
+    (refl, refl)
+
+returns-5 : tie.Need-returns-5
+unfolding takenOf shapeDrawn pageDrawn
+returns-5 c =
+    let rest = c .before .before in
+    let given = rest .before .before .before .before .before .before .args .shape in
+    rw (none-taken (given .kind) (given .numbers) (λ e. omega (arith, c .if2 .left)) (λ e. omega (arith, c .if2 .left))
+    (rest .match .rest .0 .1) (rest .match .rest .1))
+    (refl, refl)
 
 pub draw-spec : {M : Type 1} → statement M
 draw-spec =
     tie.close
     (tie.spec
     (λ c κs. search needs) (λ c κs. search needs) (λ c κs. search needs) (λ c κs. search needs) (λ c κs. search needs)
+    (λ c κs. search needs) (λ c κs. search needs) (λ c κs. search needs) (λ c κs. search needs)
     (λ c. search needs)
-    returns)
+    returns
+    (λ c. search needs)
+    returns-2
+    (λ c. search needs)
+    returns-3
+    returns-4
+    returns-5)
