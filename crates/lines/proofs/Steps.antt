@@ -126,7 +126,6 @@ module _ {s : Stroke} {size : ℕ} {at : Step} (here : Steppable s at size) wher
         let apart : to .touched - at .touched ≡ t = omega (arith, next .touched-is) in
         record {
           p-is = next .p-is;
-          rises = rw (next .g-is) (up (leb (2 * f .l) (at .r + 2 * f .s)) (at .g));
           extended =
               record {
                 order = omega (arith, next .p-is);
@@ -141,10 +140,6 @@ module _ {s : Stroke} {size : ℕ} {at : Step} (here : Steppable s at size) wher
                     };
               };
         }
-      where
-        up : (b : Bool) (g : ℕ) → g ≤ cond b (g + 1) g
-        up true g = omega arith
-        up false g = omega arith
 
   -- inside the clip
   module _ (inner : Inner s at) where
