@@ -200,10 +200,7 @@ pub fn whole_of(exact: bool, l: u64, s: u64) -> u64
     ensures { λ d. ⌜ d ≡ wholeOf exact l s ⌝ }
 {
     if exact {
-        if s == 0 {
-            return 2;
-        }
-        return 8 * numbers::product(l, s);
+        return numbers::greater(8 * numbers::product(l, s), 2);
     }
     4 * l
 }
