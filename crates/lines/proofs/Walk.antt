@@ -1,7 +1,7 @@
 -- A walk along several columns.
 use mathlib.Core.Path.{_≡_, sym, subst}
 use mathlib.Core.List.{List}
-use Prim.Native.Nat.{ℕ, _+_, _-_, _*_, _≤_, _<_}
+use Prim.Native.Nat.{ℕ, _+_, _-_, _≤_, _<_}
 use native.Mathlib.Omega.{arith}
 use Rattle.numbers.specs.inner.Offset.{origin}
 use Rattle.shapes.specs.declared.Shape.the-variants.{Line as line}

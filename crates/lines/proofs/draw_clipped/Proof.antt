@@ -1,6 +1,6 @@
 -- Each step extends the walk by one column, until it has come to end; before it has begun, nothing is drawn.
 use mathlib.Core.Path.{_≡_, refl, _∙_}
-use Prim.Native.Nat.{_-_, _≤_, _<_}
+use Prim.Native.Nat.{_-_, _≤_}
 use native.Mathlib.Omega.{arith}
 use lib.ListN.{length}
 use Rattle.page.specs.inner.Ink.{inkOf}
