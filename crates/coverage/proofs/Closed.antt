@@ -2,7 +2,7 @@
 use mathlib.Core.Path.{_≡_, refl, sym, _∙_, ap}
 use mathlib.Core.Logic.{_⊎_, inl, inr, ⊎-elim}
 use mathlib.Core.Bool.{Bool, true, false, cond}
-use Prim.Native.Nat.{ℕ, zero, suc, _+_, _*_, _-_, _≤_, _<_}
+use Prim.Native.Nat.{ℕ, zero, suc, _+_, _*_, _-_, _≤_, _<_, max}
 use native.Mathlib.Nat.{mul-pos, mul-le-mul, div-add-mod, mod-lt, div-eq-of-lt, mod-eq-of-lt}
 use native.Mathlib.Omega.{arith}
 use lib.Dec.{T}
@@ -146,12 +146,12 @@ closed true l s i j p h = exact-closed l s i j p h
 closed false l s i j p h = by-excess l s (restOf l s i) h (rest-lt l s i p) (j -ℤ pos (rowOf l s i))
 
 -- ---- as the code computes them
-pub whole-level : (l s : ℕ) → s ≡ 0 → exactWhole l s ≡ 2
+pub whole-greater : (l s : ℕ) → s ≤ l → exactWhole l s ≡ max (8 * (l * s)) 2
 unfolding exactWhole
-whole-level l zero e = refl
-whole-level l (suc s) e = absurd (omega arith)
+whole-greater l zero h = omega arith
+whole-greater l (suc s) h = omega (arith, mul-le-mul {n₁ = 1} {m₁ = 1} {n₂ = l} {m₂ = suc s} (omega arith) (omega arith))
 
-pub whole-slanted : (l s : ℕ) → 0 < s → exactWhole l s ≡ 8 * (l * s)
+whole-slanted : (l s : ℕ) → 0 < s → exactWhole l s ≡ 8 * (l * s)
 unfolding exactWhole
 whole-slanted l zero h = absurd (omega arith)
 whole-slanted l (suc s) h = omega arith

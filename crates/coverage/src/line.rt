@@ -3,7 +3,7 @@ ghost use mathlib.Core.Path.{_≡_};
 ghost use Prim.Native.Nat.{_+_, _*_, _-_, _≤_, _<_};
 ghost use lib.IntN.{subℕ};
 ghost use Rattle.coverage.specs.Line.{rowOf, restOf};
-ghost use Rattle.coverage.specs.inner.Rows.{riseOf, cornerOf, rowsOf, wholeOf, atRow};
+ghost use Rattle.coverage.specs.inner.Rows.{riseOf, cornerOf, rowsOf, wholeOf, atRow, Reaching};
 ghost use Rattle.coverage.specs.inner.Frame.{rowOrigin, rowAt, exchangedBy, inOrder, Rising, Framed};
 ghost use Rattle.coverage.specs.Coverage.{ratioOf};
 ghost use Rattle.numbers.specs.Coordinate.{inRange};
@@ -108,11 +108,29 @@ pub fn crossing_at(l: u64, s: u64, i: u64) -> Crossing
     requires { ⌜ (l ≤ offsetMost) × (s ≤ l) × (i < l) ⌝ }
     ensures { λ p. ⌜ (p .q ≡ rowOf l s i) × (p .r ≡ restOf l s i) × (p .q ≤ l) × (p .r < 2 * l) ⌝ }
 {
+    if i == 0 {
+        return Crossing { q: 0, r: l };
+    }
     let u = l + numbers::product(2 * s, i);
     Crossing {
         q: u / (2 * l),
         r: numbers::remainder(u, 2 * l),
     }
+}
+
+// The first of the columns from one to before another whose row is q or above, or that other. Rows only rise.
+pub fn column_reaching(l: u64, s: u64, q: u64, from: u64, end: u64) -> u64
+    requires { ⌜ (0 < l) × (l ≤ offsetMost) × (s ≤ l) × (q ≤ 2 * rowOrigin) × (from ≤ end) × (end ≤ l) ⌝ }
+    ensures { λ i. ⌜ Reaching l s q from end i ⌝ }
+{
+    let rise = numbers::product(2 * l, q);
+    if rise <= l + numbers::product(2 * s, from) {
+        return from;
+    }
+    if l + numbers::product(2 * s, end) < rise {
+        return end;
+    }
+    (rise - l - 1) / (2 * s) + 1
 }
 
 // What the middle row of a column has whose upper row has nothing.
@@ -182,10 +200,7 @@ pub fn whole_of(exact: bool, l: u64, s: u64) -> u64
     ensures { λ d. ⌜ d ≡ wholeOf exact l s ⌝ }
 {
     if exact {
-        if s == 0 {
-            return 2;
-        }
-        return 8 * numbers::product(l, s);
+        return numbers::greater(8 * numbers::product(l, s), 2);
     }
     4 * l
 }

@@ -3,7 +3,7 @@ use mathlib.Core.Bool.{Bool, true, false, cond}
 use mathlib.Core.Path.{_≡_, refl, sym, ap, _∙_}
 use mathlib.Core.Logic.{⊎-elim}
 use Prim.Native.Nat.{ℕ, _+_, _-_, _*_, _≤_, _<_}
-use native.Mathlib.Nat.{mul-le-mul, mul-le-mul-right}
+use native.Mathlib.Nat.{mul-le-mul, mul-le-mul-right, le-div-iff-mul-le, div-mul-le-self}
 use native.Mathlib.Omega.{arith}
 use lib.Arith.{digits-div, digits-mod}
 use lib.Dec.{leb}
@@ -19,6 +19,13 @@ use Rattle.lines.specs.inner.Stroke.{At, Advanced}
 use Rattle.lines.specs.declared.layout.Layout.{Layout}
 use Rattle.lines.specs.declared.step.Step.{Step}
 use Rattle.lines.proofs.Column.{raised-byte}
+
+-- rows only rise
+pub row-rises : (l s i j : ℕ) → 0 < l → i ≤ j → rowOf l s i ≤ rowOf l s j
+unfolding rowOf
+row-rises l s i j long h =
+    le-div-iff-mul-le {k = 2 * l} (omega arith) .1
+    (omega (arith, div-mul-le-self (l + 2 * s * i) (2 * l), mul-le-mul {n₁ = s} {m₁ = i} {n₂ = s} {m₂ = j} (omega arith) h))
 
 -- a column whose l + 2·s·i is known
 column-from : (l s i q r : ℕ) → r < 2 * l → l + 2 * s * i ≡ q * (2 * l) + r → (rowOf l s i ≡ q) × (restOf l s i ≡ r)

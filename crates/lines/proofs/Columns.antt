@@ -1,10 +1,11 @@
 -- Columns drawn one after the other.
-use mathlib.Core.Bool.{Bool, true, false}
-use Prim.Native.Nat.{ℕ, zero, suc, _^_, _≤_, _<_}
+use mathlib.Core.Bool.{Bool, true, false, cond}
+use Prim.Native.Nat.{ℕ, zero, suc, _*_, _^_, _≤_, _<_}
 use native.Mathlib.Nat.{mul-le-mul}
 use native.Mathlib.Omega.{arith}
 use Rattle.numbers.specs.inner.Offset.{offsetMost}
 use Rattle.coverage.specs.Line.{exactWhole, approxWhole}
+use Rattle.coverage.specs.inner.Frame.{rowOrigin}
 use Rattle.coverage.specs.inner.Rows.{wholeOf}
 use Rattle.coverage.specs.declared.line.Frame.{Frame}
 use Rattle.coverage.specs.declared.line.Rows.{Rows}
@@ -14,7 +15,7 @@ use Rattle.coverage.proofs.Column.{Filled}
 use Rattle.page.specs.inner.Ink.{Coverage}
 use Rattle.page.specs.inner.Paint.{Lawful}
 use Rattle.page.specs.declared.View.{View}
-use Rattle.lines.specs.inner.Layout.{alongEnd, Laid}
+use Rattle.lines.specs.inner.Layout.{alongEnd, edgeBy, Laid}
 use Rattle.lines.specs.declared.layout.Layout.{Layout}
 
 -- ---- the rows of a column are coverages
@@ -48,3 +49,13 @@ pub along-most : (c : View) (f : Frame) (size p : ℕ) → Lawful c size → p �
 along-most c f size p w h =
     let end : alongEnd c f ≤ 1024 = cond-le (f .steep) (omega (arith, w .y-most, w .h-most)) (omega (arith, w .x-most, w .w-most)) in
     omega arith
+
+-- ---- the clip's rows are few, and the row origin is far above them
+pub edges-small : (c : View) (f : Frame) (lay : Layout) (size : ℕ) → Lawful c size → Laid c f lay → f .y ≤ offsetMost → (lay .low < 2 * rowOrigin) × (lay .high ≤ 2 * rowOrigin)
+edges-small c f lay size w d hy = rw (d .low-is, d .high-is) (go (f .falls) (f .steep))
+  where
+    go : (t u : Bool) → (edgeBy t (f .y) (cond u (c .x1) (c .y1)) (cond u (c .x0) (c .y0)) < 2 * rowOrigin)
+        × (edgeBy t (f .y) (cond u (c .x0) (c .y0)) (cond u (c .x1) (c .y1)) ≤ 2 * rowOrigin)
+    go true u = (omega arith, omega arith)
+    go false true = (omega (arith, w .x-order, w .x-most, w .w-most), omega (arith, w .x-most, w .w-most))
+    go false false = (omega (arith, w .y-order, w .y-most, w .h-most), omega (arith, w .y-most, w .h-most))

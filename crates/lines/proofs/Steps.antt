@@ -1,12 +1,11 @@
 -- One column of a walk.
-use mathlib.Core.Bool.{Bool, true, false, cond}
+use mathlib.Core.Bool.{true}
 use mathlib.Core.Logic.{⊎-elim}
 use mathlib.Core.Path.{_≡_, ap, _∙_}
 use mathlib.Core.List.{List}
 use Prim.Native.Nat.{ℕ, _+_, _-_, _*_, _≤_, _<_}
 use native.Mathlib.Nat.{eq-zero-or-pos}
 use native.Mathlib.Omega.{arith}
-use lib.Dec.{leb}
 use lib.ListN.{length}
 use borrow.Author.Tests.{le-leb, lt-ltb}
 use Rattle.numbers.specs.inner.Offset.{origin}
@@ -126,7 +125,6 @@ module _ {s : Stroke} {size : ℕ} {at : Step} (here : Steppable s at size) wher
         let apart : to .touched - at .touched ≡ t = omega (arith, next .touched-is) in
         record {
           p-is = next .p-is;
-          rises = rw (next .g-is) (up (leb (2 * f .l) (at .r + 2 * f .s)) (at .g));
           extended =
               record {
                 order = omega (arith, next .p-is);
@@ -141,10 +139,6 @@ module _ {s : Stroke} {size : ℕ} {at : Step} (here : Steppable s at size) wher
                     };
               };
         }
-      where
-        up : (b : Bool) (g : ℕ) → g ≤ cond b (g + 1) g
-        up true g = omega arith
-        up false g = omega arith
 
   -- inside the clip
   module _ (inner : Inner s at) where

@@ -1,26 +1,22 @@
 -- A walk along several columns.
-use mathlib.Core.Bool.{Bool, true, false, cond, _&&_}
-use mathlib.Core.Logic.{⊎-elim}
 use mathlib.Core.Path.{_≡_, sym, subst}
 use mathlib.Core.List.{List}
-use Prim.Native.Nat.{ℕ, _+_, _-_, _*_, _≤_, _<_}
+use Prim.Native.Nat.{ℕ, _+_, _-_, _≤_, _<_}
 use native.Mathlib.Omega.{arith}
-use lib.Dec.{leb, ltb}
-use borrow.Author.Tests.{le-leb, lt-ltb, leb-true, ltb-true}
-use Rattle.numbers.proofs.Order.{lt-or-le, both-true}
+use Rattle.numbers.specs.inner.Offset.{origin}
 use Rattle.shapes.specs.declared.Shape.the-variants.{Line as line}
-use Rattle.coverage.specs.inner.Frame.{rowOrigin}
 use Rattle.coverage.specs.inner.OnPage.{shapeOn}
 use Rattle.page.specs.inner.Paint.{Drawn}
 use Rattle.page.proofs.Drawn.{drawn-none, drawn-join}
 use Rattle.coverage.specs.declared.line.Frame.{Frame}
 use Rattle.page.specs.declared.View.{View}
-use Rattle.lines.specs.inner.Layout.{EndInside, Between, strip, edgeBy}
-use Rattle.lines.specs.inner.Stroke.{At, Prepared, Standing, Steppable, WalkReady, Extended}
+use Rattle.lines.specs.inner.Layout.{EndInside, Between, strip}
+use Rattle.lines.specs.inner.Stroke.{At, FirstFits, Prepared, Standing, Steppable, Inner, Extended, Drawable, ColumnsDrawn, Inside}
 use Rattle.lines.specs.declared.step.Step.{Step}
 use Rattle.lines.specs.declared.step.Stroke.{Stroke}
 use Rattle.lines.proofs.Strip.{strip-join, strip-none}
-use Rattle.lines.proofs.Steps.{reaches}
+use Rattle.lines.proofs.Advance.{row-rises}
+use Rattle.lines.proofs.Columns.{layout-le, along-most}
 
 abbrev columns : Stroke → ℕ → ℕ → ℕ → ℕ → ℕ
 columns s p e = strip (s .view) (s .frame) p e (shapeOn (line (s .line)))
@@ -50,51 +46,79 @@ module _ {s : Stroke} where
 within-next : {c : View} {f : Frame} {e : ℕ} (p : ℕ) → EndInside c f e → p < e → EndInside c f (p + 1)
 within-next p w h = record { right = omega (arith, w .right); last = omega (arith, w .last) }
 
--- a page has its highest row well above row 2, for rows are counted from the row origin
-pub high-least : (s : Stroke) (size : ℕ) → Prepared s size → 2 ≤ s .layout .high
-high-least s size r = rw (r .laid .high-is) (go (s .frame .falls) (s .frame .steep))
-  where
-    go : (t u : Bool) → 2 ≤ edgeBy t (s .frame .y) (cond u (s .view .x0) (s .view .y0)) (cond u (s .view .x1) (s .view .y1))
-    go true true = omega (arith, r .lawful .x-order, r .lawful .x-most, r .lawful .w-most)
-    go true false = omega (arith, r .lawful .y-order, r .lawful .y-most, r .lawful .h-most)
-    go false u = omega (arith, r .framed .high)
+-- ---- columns p to e
 
--- what the test of a walk says
-pub goes : (p e g top : ℕ) → (ltb p e && leb g top) ≡ true → (p < e) × (g ≤ top)
-goes p e g top h = let b = both-true (ltb p e) (leb g top) h in (ltb-true p e (b .0), leb-true g top (b .1))
-
-pub stops : (p e g top : ℕ) → (ltb p e && leb g top) ≡ false → p < e → top < g
-stops p e g top h k = ⊎-elim (λ z. z) (λ z. absurd (let n : _≡_ {A = ℕ} 0 1 = cc (lt-ltb p e k, le-leb g top z) in omega arith)) (lt-or-le top g)
-
--- a walk that began with no touches and ends at e, or above every row, has drawn the columns to e
-pub extended-whole : {ink : ℕ → ℕ → ℕ} {s : Stroke} {size e : ℕ} {from to : Step} {l m : List ℕ} → Prepared s size → EndInside (s .view) (s .frame) e
-    → from .touched ≡ 0 → Extended ink s from to l m → to .p ≤ e → (to .p < e → 2 * rowOrigin - 1 < to .g)
-    → Drawn (s .view .w) (s .view .h) ink (columns s (from .p) e) l m (to .touched)
-extended-whole {ink} {s} {size} {e} {from} {to} ready within zero x most past =
-    let all : to .touched ≡ to .touched - from .touched = omega arith in rw (← ended, all) (x .drawn)
-  where
-    ended : to .p ≡ e
-    ended =
-        ⊎-elim (λ z. absurd (omega (arith, past z, reaches (record { ready = ready; standing = x .standing; within = within-next (to .p) within z }) .row-most)))
-        (λ z. omega arith) (lt-or-le (to .p) e)
-
--- where a walk begins
-pub walkable-first : {s : Stroke} {at : Step} {p e size : ℕ} → Prepared s size → Between (s .view) (s .frame) p e → At (s .frame) (s .layout) at → at .p ≡ p
-    → at .touched ≡ 0 → WalkReady s at e size
-walkable-first ready b is p-is zero =
+-- a part of columns that may be drawn
+pub drawable : {s : Stroke} {size size′ p e : ℕ} (a b : ℕ) → size′ ≡ size → Prepared s size → Between (s .view) (s .frame) p e → p ≤ a → b ≤ e → Drawable s a b size′
+drawable {s} a b same ready w h k =
     record {
-      ready = ready;
-      standing = record { is = is; left = omega (arith, b .left); first = omega (arith, b .first); few = omega arith };
-      order = omega (arith, b .some);
-      within = b .end;
+      ready = subst (Prepared s) (sym same) ready;
+      between =
+          λ z.
+          record {
+            some = z;
+            left = omega (arith, w .left);
+            first = omega (arith, w .first);
+            end = record { right = omega (arith, w .end .right); last = omega (arith, w .end .last) };
+          };
     }
 
--- and where it goes on
-pub walkable-on : {ink : ℕ → ℕ → ℕ} {s : Stroke} {at to : Step} {e size size′ : ℕ} {l m : List ℕ} → size′ ≡ size → WalkReady s at e size
-    → Extended ink s at to l m → to .p ≤ e → WalkReady s to e size′
-walkable-on {s = s} same w x h = record { ready = subst (Prepared s) (sym same) (w .ready); standing = x .standing; order = h; within = w .within }
+module _ {s : Stroke} {p e size : ℕ} (here : Drawable s p e size) (some : p < e) where
+  between : Between (s .view) (s .frame) p e
+  between = here .between some
 
-pub steppable : {ink : ℕ → ℕ → ℕ} {s : Stroke} {at to : Step} {e size size′ : ℕ} {l m : List ℕ} → size′ ≡ size → WalkReady s at e size → Extended ink s at to l m → to .p < e
-    → Steppable s to size′
-steppable {s = s} {to = to} same w x h =
-    record { ready = subst (Prepared s) (sym same) (w .ready); standing = x .standing; within = within-next (to .p) (w .within) h }
+  -- where a walk begins
+  pub first-fits : FirstFits (s .layout) (s .frame) p
+  first-fits =
+      let f = here .ready .framed in
+      let w = here .ready .lawful in
+      let o = layout-le (s .view) (s .frame) (s .layout) size w (here .ready .laid) in
+      record {
+        first = between .first;
+        last = omega (arith, between .end .last);
+        long = omega (arith, f .right);
+        short = f .short;
+        high = f .high;
+        column = along-most (s .view) (s .frame) size p w (omega (arith, between .end .right));
+        along = o .0;
+        across = o .1;
+        falls-is = here .ready .laid .falls-is;
+      }
+
+  pub walk-begins : {at : Step} → At (s .frame) (s .layout) at → at .p ≡ p → at .touched ≡ 0 → Standing s at
+  walk-begins is p-is zero = record { is = is; left = omega (arith, between .left); first = omega (arith, between .first); few = omega arith }
+
+  -- and where it goes on
+  pub steppable : {ink : ℕ → ℕ → ℕ} {at to : Step} {size′ : ℕ} {l m : List ℕ} → size′ ≡ size → Extended ink s at to l m → to .p < e → Steppable s to size′
+  steppable {to = to} same x h =
+      record { ready = subst (Prepared s) (sym same) (here .ready); standing = x .standing; within = within-next (to .p) (between .end) h }
+
+  -- rows only rise, so that all columns lie between the first and the last
+  pub inner-at : {at : Step} → Inside (s .frame) (s .layout) p e → Standing s at → p ≤ at .p → at .p < e → Inner s at
+  inner-at {at} in-clip stand h k =
+      let f = s .frame in
+      let long = here .ready .framed .long in
+      record {
+        above-low = omega (arith, in-clip .above-low some, stand .is .g-is, row-rises (f .l) (f .s) (p + origin - f .x) (at .p + origin - f .x) long (omega arith));
+        below-high = omega (arith, in-clip .below-high some, stand .is .g-is, row-rises (f .l) (f .s) (at .p + origin - f .x) (e - 1 + origin - f .x) long (omega arith));
+      }
+
+module _ {ink : ℕ → ℕ → ℕ} {s : Stroke} {p e : ℕ} where
+  -- a walk that began with no touches and has come to e has drawn them
+  pub walked : {from to : Step} {l m : List ℕ} → from .p ≡ p → from .touched ≡ 0 → Extended ink s from to l m → to .p ≤ e → e ≤ to .p → ColumnsDrawn ink s p e l m (to .touched)
+  walked {from} {to} p-is zero x most least =
+      let all : to .touched ≡ to .touched - from .touched = omega arith in
+      let ended : to .p ≡ e = omega arith in
+      record { drawn = rw (← p-is, ← ended, all) (x .drawn); few = omega (arith, x .standing .few) }
+
+  pub none-drawn : (l : List ℕ) → e ≤ p → ColumnsDrawn ink s p e l l 0
+  none-drawn l h =
+      record { drawn = drawn-none (s .view .w) (s .view .h) ink (columns s p e) l (strip-none (s .view) (s .frame) (shapeOn (line (s .line))) p e h); few = omega arith }
+
+-- three parts, one after the other
+pub three-parts : {ink : ℕ → ℕ → ℕ} {s : Stroke} {p a b e t₁ t₂ t₃ : ℕ} {l l₁ l₂ m : List ℕ} → p ≤ a → a ≤ b → b ≤ e
+    → ColumnsDrawn ink s p a l l₁ t₁ → ColumnsDrawn ink s a b l₁ l₂ t₂ → ColumnsDrawn ink s b e l₂ m t₃
+    → Drawn (s .view .w) (s .view .h) ink (columns s p e) l m (t₁ + t₂ + t₃)
+three-parts {s = s} {p} {a} {b} {e} h i j x y z =
+    let join = strip-join (s .view) (s .frame) (shapeOn (line (s .line))) in
+    drawn-join (columns s p e) (join p b e (omega arith) j) (drawn-join (columns s p b) (join p a b h i) (x .drawn) (y .drawn)) (z .drawn)

@@ -3,13 +3,11 @@ pub mod layout;
 pub mod step;
 
 use coverage::line::Frame;
+use layout::Layout;
 use page::View;
-use step::Step;
 use step::Stroke;
-ghost use mathlib.Core.Bool.{_&&_};
 ghost use mathlib.Core.Path.{_≡_};
-ghost use Prim.Native.Nat.{_+_, _≤_, _<_};
-ghost use lib.Dec.{leb, ltb};
+ghost use Prim.Native.Nat.{_+_, _≤_};
 ghost use lib.ListN.{length};
 ghost use Rattle.numbers.specs.inner.Offset.{offsetMost};
 ghost use Rattle.shapes.specs.Limits.{shapeRefusal};
@@ -21,7 +19,7 @@ ghost use Rattle.coverage.specs.inner.OnPage.{shapeOn};
 ghost use Rattle.page.specs.inner.Ink.{inkOf};
 ghost use Rattle.page.specs.inner.Paint.{inView, Lawful, Drawn};
 ghost use Rattle.lines.specs.inner.Layout.{Between, Columns, strip};
-ghost use Rattle.lines.specs.inner.Stroke.{WalkReady, Extended};
+ghost use Rattle.lines.specs.inner.Stroke.{Drawable, ColumnsDrawn, Inside, PartFits, InsidePart};
 
 // The columns of the page, or its rows, from one to before another.
 pub struct Span {
@@ -29,37 +27,51 @@ pub struct Span {
     pub end: usize,
 }
 
-// Whether a walk has columns before end left, and stands in row top or below.
-fn goes_on(at: Step, top: usize, end: usize) -> bool
-    ensures { λ t. ⌜ t ≡ (ltb (at .p) end && leb (at .g) top) ⌝ }
+// Draws columns from to end of a stroke, if any, under the clip; hands back how many pixels they touched.
+fn draw_clipped(page: &mut [u8], s: Stroke, from: usize, end: usize) -> u64
+    requires { ⌜ Drawable s from end (length (now page)) ⌝ }
+    ensures { λ t. ⌜ ColumnsDrawn (inkOf (s .level) (s .d)) s from end (now (page .entry)) (now (page .exit)) t ⌝ }
 {
-    if at.p < end { at.g <= top } else { false }
-}
-
-// Draws columns under the clip, to end or to the first above row top.
-fn walk_clipped(page: &mut [u8], s: Stroke, from: Step, top: usize, end: usize) -> Step
-    requires { ⌜ WalkReady s from end (length (now page)) ⌝ }
-    ensures { λ to. ⌜ Extended (inkOf (s .level) (s .d)) s from to (now (page .entry)) (now (page .exit)) × (to .p ≤ end) × (to .p < end → top < to .g) ⌝ }
-{
-    let mut at = from;
-    while goes_on(at, top, end) {
+    if end <= from {
+        return 0;
+    }
+    let mut at = step::first_step(s.layout, s.frame, from);
+    while at.p < end {
         at = step::step_clipped(page, s, at);
     }
-    at
+    at.touched
 }
 
-// Draws columns inside the clip, from one above its lowest row, to end or to the first in its highest row.
-fn walk_inside(page: &mut [u8], s: Stroke, from: Step, end: usize) -> Step
-    requires { ⌜ WalkReady s from end (length (now page)) × (from .p < end → s .layout .low < from .g) ⌝ }
-    ensures { λ to. ⌜ Extended (inkOf (s .level) (s .d)) s from to (now (page .entry)) (now (page .exit)) × (to .p ≤ end) ⌝ }
+// Draws columns from to end of a stroke, if any, which lie inside the clip; hands back how many pixels they touched.
+fn draw_inside(page: &mut [u8], s: Stroke, from: usize, end: usize) -> u64
+    requires { ⌜ Drawable s from end (length (now page)) × Inside (s .frame) (s .layout) from end ⌝ }
+    ensures { λ t. ⌜ ColumnsDrawn (inkOf (s .level) (s .d)) s from end (now (page .entry)) (now (page .exit)) t ⌝ }
 {
-    let lay = s.layout;
-    let top = lay.high - 2;
-    let mut at = from;
-    while goes_on(at, top, end) {
+    if end <= from {
+        return 0;
+    }
+    let mut at = step::first_step(s.layout, s.frame, from);
+    while at.p < end {
         at = step::step_inside(page, s, at);
     }
-    at
+    at.touched
+}
+
+// The columns among those from one to end that lie inside the clip with all their rows: rows only rise.
+fn inside_of(lay: Layout, f: Frame, from: usize, end: usize) -> Span
+    requires { ⌜ PartFits lay f from end ⌝ }
+    ensures { λ r. ⌜ InsidePart f lay from end (r .from) (r .end) ⌝ }
+{
+    let i = (from as u64) + numbers::ORIGIN - f.x;
+    let j = (end as u64) + numbers::ORIGIN - f.x;
+    let above = numbers::less((lay.low as u64) + 1, coverage::line::ROW_ORIGIN);
+    let below = numbers::less(lay.high as u64, coverage::line::ROW_ORIGIN + 1);
+    let a = coverage::line::column_reaching(f.l, f.s, above, i, j);
+    let b = coverage::line::column_reaching(f.l, f.s, below, a, j);
+    Span {
+        from: (a + f.x - numbers::ORIGIN) as usize,
+        end: (b + f.x - numbers::ORIGIN) as usize,
+    }
 }
 
 // Draws columns from to end of a line; hands back how many pixels they touched.
@@ -87,11 +99,11 @@ pub(crate) fn draw_columns(
         d,
         m: page::reciprocal(d),
     };
-    let start = step::first_step(lay, f, from);
-    let lower = walk_clipped(page, s, start, lay.low, end);
-    let inner = walk_inside(page, s, lower, end);
-    let upper = walk_clipped(page, s, inner, layout::LAST_ROW, end);
-    upper.touched
+    let inside = inside_of(lay, f, from, end);
+    let lower = draw_clipped(page, s, from, inside.from);
+    let inner = draw_inside(page, s, inside.from, inside.end);
+    let upper = draw_clipped(page, s, inside.end, end);
+    lower + inner + upper
 }
 
 // Columns of a line outside of which it has no coverage in the clip.

@@ -1,9 +1,9 @@
 -- The rows of a column in closed form, by the rest r of the column. `proofs/Closed.antt` shows that they are the rows of the two rules;
 -- only inner functions cite them.
 use mathlib.Core.Bool.{Bool, true, false, cond}
-use Prim.Native.Nat.{ℕ, zero, suc, _+_, _*_, _-_}
+use Prim.Native.Nat.{ℕ, zero, suc, _+_, _*_, _-_, _≤_, _<_}
 use lib.IntN.{ℤ, pos, negsuc}
-use Rattle.coverage.specs.Line.{exactRow, exactWhole, approxRow, approxWhole}
+use Rattle.coverage.specs.Line.{rowOf, exactRow, exactWhole, approxRow, approxWhole}
 use Rattle.coverage.specs.declared.line.Rows.{Rows}
 
 -- one of the two rules, and what its rows add up to
@@ -45,3 +45,10 @@ atRow c (pos (suc zero)) = c .upper
 atRow c (pos (suc (suc k))) = 0
 atRow c (negsuc zero) = c .lower
 atRow c (negsuc (suc k)) = 0
+
+-- i is the first of the columns a to e whose row is q or above, or e
+pub record Reaching (l s q a e i : ℕ) : Type 0 where
+  pub least : a ≤ i
+  pub most : i ≤ e
+  pub reached : i < e → q ≤ rowOf l s i
+  pub below : a < i → rowOf l s (i - 1) < q

@@ -1,12 +1,11 @@
--- Three walks, one after the other, extend each other from the first column to the last: the columns below the clip's highest rows are
--- drawn inside it, the others under it.
-use mathlib.Core.Path.{sym, _∙_}
+-- The columns inside the clip lie among all others, of which some come before and some after: three parts, one after the other.
+use mathlib.Core.Path.{refl, sym, _∙_}
 use native.Mathlib.Omega.{arith}
 use lib.ListN.{length}
 use Rattle.coverage.proofs.Pixel.{whole-drawn}
-use Rattle.lines.specs.inner.Stroke.{WalkReady}
-use Rattle.lines.proofs.Columns.{whole-fits, layout-le, along-most}
-use Rattle.lines.proofs.Walk.{extended-join, extended-whole, walkable-first, walkable-on}
+use Rattle.lines.specs.inner.Stroke.{Prepared}
+use Rattle.lines.proofs.Columns.{whole-fits, edges-small}
+use Rattle.lines.proofs.Walk.{drawable, three-parts}
 use borrow.Author.Needs.{needs}
 use Rattle.lines.proofs.draw_columns.Statement.{statement}
 use Rattle.lines.proofs.draw_columns.Tie as tie
@@ -17,33 +16,32 @@ reciprocal-requires c κs =
     let f = s .pre .1 in
     rw (c .whole-of .ensures) (whole-fits (s .args .line .exact) (s .args .f .l) (s .args .f .s) (f .long) (f .short) (omega (arith, f .right)))
 
-first-step-requires : tie.Need-first-step-requires
-first-step-requires c κs =
+inside-of-requires : tie.Need-inside-of-requires
+inside-of-requires c κs =
     let laid = c .before .before in
     let s = laid .before .before in
     let a = s .args in
     let f = s .pre .1 in
     let b = s .pre .2 in
-    let o = layout-le (a .view) (a .f) (laid .layout-of .result) (length (a .page .now)) (s .pre .0) (laid .layout-of .ensures) in
+    let o = edges-small (a .view) (a .f) (laid .layout-of .result) (length (a .page .now)) (s .pre .0) (laid .layout-of .ensures) (f .high) in
     record {
       first = b .first;
-      last = omega (arith, b .some, b .end .last);
-      long = omega (arith, f .right);
+      order = omega (arith, b .some);
+      last = b .end .last;
+      long = f .long;
       short = f .short;
-      high = f .high;
-      column = along-most (a .view) (a .f) (length (a .page .now)) (a .from) (s .pre .0) (omega (arith, b .some, b .end .right));
-      along = o .0;
-      across = o .1;
-      falls-is = laid .layout-of .ensures .falls-is;
+      right = f .right;
+      low = o .0;
+      high = o .1;
     }
 
--- the stroke, and where its walk begins
-module _ (c : tie.After-first-step) where
+-- the stroke
+module _ (c : tie.After-inside-of) where
   abbrev start : tie.Start
   start = let laid = c .before .before .before in laid .before .before
 
-  walkable : let laid = c .before .before .before in let a = laid .before .before .args in
-      WalkReady
+  ready : let laid = c .before .before .before in let a = laid .before .before .args in
+      Prepared
       (record {
         view = a .view;
         line = a .line;
@@ -53,50 +51,45 @@ module _ (c : tie.After-first-step) where
         d = c .before .before .whole-of .result;
         m = c .before .reciprocal .result;
       })
-      (c .first-step .result) (a .end) (length (a .page .now))
-  walkable =
+      (length (a .page .now))
+  ready =
       let pre = start .pre in
       let laid = c .before .before .before .layout-of .ensures in
-      let first = c .first-step .ensures in
-      walkable-first (record { lawful = pre .0; framed = pre .1; laid = laid; d-is = c .before .before .whole-of .ensures; m-is = c .before .reciprocal .ensures })
-      (pre .2) (first .0) (first .1) (first .2)
+      record { lawful = pre .0; framed = pre .1; laid = laid; d-is = c .before .before .whole-of .ensures; m-is = c .before .reciprocal .ensures }
 
-walk-clipped-requires : tie.Need-walk-clipped-requires
-walk-clipped-requires c κs = walkable (c .before)
+draw-clipped-requires : tie.Need-draw-clipped-requires
+draw-clipped-requires c κs =
+    let i = c .before in
+    let part = i .inside-of .ensures in
+    drawable _ _ refl (ready i) (start i .pre .2) (omega arith) (omega (arith, part .order, part .most))
 
--- from the first walk on
-module _ (c : tie.After-walk-clipped) where
-  abbrev begun : tie.After-first-step
-  begun = c .before .before
-
-walk-inside-requires : tie.Need-walk-inside-requires
-walk-inside-requires c κs =
+draw-inside-requires : tie.Need-draw-inside-requires
+draw-inside-requires c κs =
     let lower = c .before .before .before in
-    let e = lower .walk-clipped .ensures in
-    (walkable-on (lower .walk-clipped .kept .0) (walkable (begun lower)) (e .0) (e .1), e .2)
+    let i = lower .before .before in
+    let part = i .inside-of .ensures in
+    (drawable _ _ (lower .draw-clipped .kept .0) (ready i) (start i .pre .2) (part .least) (part .most), part .inside)
 
-walk-clipped-requires-2 : tie.Need-walk-clipped-requires-2
-walk-clipped-requires-2 c κs =
+draw-clipped-requires-2 : tie.Need-draw-clipped-requires-2
+draw-clipped-requires-2 c κs =
     let inner = c .before .before .before in
     let lower = inner .before .before .before .before in
-    let e = lower .walk-clipped .ensures in
-    let g = inner .walk-inside .ensures in
-    walkable-on (inner .walk-inside .kept .0 ∙ lower .walk-clipped .kept .0) (walkable (begun lower)) (extended-join (e .0) (g .0)) (g .1)
+    let i = lower .before .before in
+    let part = i .inside-of .ensures in
+    drawable _ _ (inner .draw-inside .kept .0 ∙ lower .draw-clipped .kept .0) (ready i) (start i .pre .2) (omega (arith, part .least, part .order)) (omega arith)
 
 returns : tie.Need-returns
 returns c =
     let upper = c .before .before in
     let inner = upper .before .before .before .before in
     let lower = inner .before .before .before .before in
-    let first = begun lower in
-    let pre = start first .pre in
-    let e = upper .walk-clipped2 .ensures in
-    let x = extended-join (extended-join (lower .walk-clipped .ensures .0) (inner .walk-inside .ensures .0)) (e .0) in
-    rw (sym (first .before .before .whole-of .ensures ∙ whole-drawn (pre .1)), ← first .first-step .ensures .1)
-    (extended-whole (walkable first .ready) (pre .2 .end) (first .first-step .ensures .2) x (e .1) (e .2))
+    let i = lower .before .before in
+    let part = i .inside-of .ensures in
+    rw (sym (i .before .before .whole-of .ensures ∙ whole-drawn (start i .pre .1)))
+    (three-parts (part .least) (part .order) (part .most) (lower .draw-clipped .ensures) (inner .draw-inside .ensures) (upper .draw-clipped2 .ensures))
 
 pub draw-columns-spec : {M : Type 1} → statement M
 draw-columns-spec =
     tie.close
-    (tie.spec (λ c. search needs) (λ c. search needs) reciprocal-requires first-step-requires walk-clipped-requires walk-inside-requires
-    walk-clipped-requires-2 (λ c. search needs) returns)
+    (tie.spec (λ c. search needs) (λ c. search needs) reciprocal-requires inside-of-requires draw-clipped-requires draw-inside-requires
+    draw-clipped-requires-2 (λ c. search needs) (λ c. search needs) (λ c. search needs) returns)

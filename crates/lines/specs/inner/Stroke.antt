@@ -13,7 +13,7 @@ use Rattle.coverage.specs.inner.OnPage.{shapeOn}
 use Rattle.coverage.specs.declared.line.Frame.{Frame}
 use Rattle.page.specs.inner.Ink.{Reciprocal}
 use Rattle.page.specs.inner.Paint.{Lawful, Drawn}
-use Rattle.lines.specs.inner.Layout.{alongFrom, strip, EndInside, Laid, byteAt, raised}
+use Rattle.lines.specs.inner.Layout.{alongFrom, strip, EndInside, Between, Laid, byteAt, raised}
 use Rattle.lines.specs.declared.layout.Layout.{Layout}
 use Rattle.lines.specs.declared.step.Stroke.{Stroke}
 use Rattle.lines.specs.declared.step.Step.{Step}
@@ -80,13 +80,6 @@ pub record Steppable (s : Stroke) (at : Step) (size : ℕ) : Type 0 where
   pub standing : Standing s at
   pub within : EndInside (s .view) (s .frame) (at .p + 1)
 
--- a walk may draw the columns from the one at which it stands to end
-pub record WalkReady (s : Stroke) (at : Step) (end size : ℕ) : Type 0 where
-  pub ready : Prepared s size
-  pub standing : Standing s at
-  pub order : at .p ≤ end
-  pub within : EndInside (s .view) (s .frame) end
-
 -- a walk stands where the clip keeps all three rows of the column
 pub record Inner (s : Stroke) (at : Step) : Type 0 where
   pub above-low : s .layout .low < at .g
@@ -102,5 +95,43 @@ pub record Extended (ink : ℕ → ℕ → ℕ) (s : Stroke) (at to : Step) (l m
 -- it was one column
 pub record Stepped (ink : ℕ → ℕ → ℕ) (s : Stroke) (at to : Step) (l m : List ℕ) : Type 0 where
   pub p-is : to .p ≡ at .p + 1
-  pub rises : at .g ≤ to .g
   pub extended : Extended ink s at to l m
+
+-- ---- columns
+
+-- columns p to e of a stroke, if there are any, may be drawn on a page of size bytes
+pub record Drawable (s : Stroke) (p e size : ℕ) : Type 0 where
+  pub ready : Prepared s size
+  pub between : p < e → Between (s .view) (s .frame) p e
+
+-- they have been drawn, in any ink: the page was l and is m, and t pixels were touched
+pub record ColumnsDrawn (ink : ℕ → ℕ → ℕ) (s : Stroke) (p e : ℕ) (l m : List ℕ) (t : ℕ) : Type 0 where
+  pub drawn : Drawn (s .view .w) (s .view .h) ink (strip (s .view) (s .frame) p e (shapeOn (line (s .line)))) l m t
+  pub few : t ≤ 3 * e
+
+-- the row of the middle pixel of column p
+abbrev pub rowIn : Frame → ℕ → ℕ
+rowIn f p = rowOrigin + rowOf (f .l) (f .s) (p + origin - f .x)
+
+-- the clip keeps all rows of columns p to e: rows only rise, so that the first and the last column tell
+pub record Inside (f : Frame) (lay : Layout) (p e : ℕ) : Type 0 where
+  pub above-low : p < e → lay .low < rowIn f p
+  pub below-high : p < e → rowIn f (e - 1) + 1 < lay .high
+
+-- columns p to e are a line's, and no number is too great
+pub record PartFits (lay : Layout) (f : Frame) (p e : ℕ) : Type 0 where
+  pub first : f .x ≤ p + origin
+  pub order : p ≤ e
+  pub last : e + origin ≤ f .x + f .l
+  pub long : 0 < f .l
+  pub short : f .s ≤ f .l
+  pub right : f .x + f .l ≤ offsetMost
+  pub low : lay .low < 2 * rowOrigin
+  pub high : lay .high ≤ 2 * rowOrigin
+
+-- columns a to b are among columns p to e, and inside
+pub record InsidePart (f : Frame) (lay : Layout) (p e a b : ℕ) : Type 0 where
+  pub least : p ≤ a
+  pub order : a ≤ b
+  pub most : b ≤ e
+  pub inside : Inside f lay a b
