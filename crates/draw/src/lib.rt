@@ -1,4 +1,5 @@
 // One shape on a lent page.
+use coverage::line::frame_of;
 use page::View;
 use shapes::Clip;
 use shapes::Disc;
@@ -45,7 +46,7 @@ pub fn draw_lawful(page: &mut [u8], view: View, level: u8, shape: Shape) -> u64
     ensures { λ t. ⌜ DrawnIn view (inkOf level (drawnD shape)) (shapeOn shape) (now (page .entry)) (now (page .exit)) t ⌝ }
 {
     match shape {
-        Shape::Line(line) => lines::draw_line(page, view, line, level),
+        Shape::Line(line) => lines::draw_line(page, view, line, frame_of(line), level),
         Shape::Disc(disc) => circles::draw_disc(page, view, disc, level),
         Shape::Ring(ring) => circles::draw_ring(page, view, ring, level),
     }
@@ -76,7 +77,7 @@ pub fn draw_line(page: &mut [u8], w: u16, h: u16, clip: Clip, level: u8, line: L
         return Outcome::Refused(refusal);
     }
     let view = view_of(w, h, clip);
-    Outcome::Touched(lines::draw_line(page, view, line, level))
+    Outcome::Touched(lines::draw_line(page, view, line, frame_of(line), level))
 }
 
 pub fn draw_disc(page: &mut [u8], w: u16, h: u16, clip: Clip, level: u8, disc: Disc) -> Outcome

@@ -10,7 +10,6 @@ ghost use mathlib.Core.Path.{_≡_};
 ghost use Prim.Native.Nat.{_+_, _≤_};
 ghost use lib.ListN.{length};
 ghost use Rattle.numbers.specs.inner.Offset.{offsetMost};
-ghost use Rattle.shapes.specs.Limits.{shapeRefusal};
 ghost use Rattle.shapes.specs.declared.Shape.the-variants.{Line as asShape};
 ghost use Rattle.shapes.specs.declared.Line.{Line};
 ghost use Rattle.coverage.specs.Coverage.{drawnD};
@@ -119,13 +118,12 @@ fn columns_of(view: View, f: Frame) -> Span
     }
 }
 
-// Draws a line within the clip; hands back how many pixels it touched.
-pub fn draw_line(page: &mut [u8], view: View, line: shapes::Line, level: u8) -> u64
-    requires { ⌜ Lawful view (length (now page)) × (shapeRefusal (asShape line) ≡ 0) ⌝ }
+// Draws a line, whose frame is worked out already, within the clip; hands back how many pixels it touched.
+pub fn draw_line(page: &mut [u8], view: View, line: shapes::Line, f: Frame, level: u8) -> u64
+    requires { ⌜ Lawful view (length (now page)) × Framed line f ⌝ }
     ensures { λ t. ⌜ Drawn (view .w) (view .h) (inkOf level (drawnD (asShape line)))
         (inView view (shapeOn (asShape line))) (now (page .entry)) (now (page .exit)) t ⌝ }
 {
-    let f = coverage::line::frame_of(line);
     let span = columns_of(view, f);
     if span.end <= span.from {
         return 0;

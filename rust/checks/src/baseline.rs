@@ -229,15 +229,15 @@ struct Circle {
 
 impl Circle {
     fn of(radius: u16) -> Circle {
-        let mut heights = [0; 257];
-        let square = u32::from(radius) * u32::from(radius);
-        for (k, height) in (0..u32::from(radius)).zip(&mut heights) {
+        let mut circle = Circle {
+            radius: radius.into(),
+            heights: [0; 257],
+        };
+        let square = i64::from(radius) * i64::from(radius);
+        for (k, height) in (0..i64::from(radius)).zip(&mut circle.heights) {
             *height = height_of(square - k * k);
         }
-        Circle {
-            radius: radius.into(),
-            heights,
-        }
+        circle
     }
 
     /// The 512ths covered at the distances `across` and `down` from the centre.
@@ -262,9 +262,9 @@ impl Circle {
 }
 
 /// The whole number nearest to 256 times the square root: the processor's root, put right by test.
-fn height_of(square: u32) -> u32 {
-    let m = u64::from(square) << 18;
-    let mut y = (256.0 * f64::from(square).sqrt() + 0.5) as u64;
+fn height_of(square: i64) -> u32 {
+    let m = square << 18;
+    let mut y = (256.0 * (square as f64).sqrt() + 0.5) as i64;
     while m < (2 * y - 1) * (2 * y - 1) {
         y -= 1;
     }

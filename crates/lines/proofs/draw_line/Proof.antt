@@ -8,9 +8,10 @@ use Rattle.lines.proofs.draw_line.Statement.{statement}
 use Rattle.lines.proofs.draw_line.Tie as tie
 
 -- what `columns_of` promises of this line
-columns : (c : tie.After-columns-of) → let f = c .before in let a = f .before .before .args in
-    Columns (a .view) (a .line) (f .frame-of .result) (c .columns-of .result .from) (c .columns-of .result .end)
-columns c = let f = c .before in c .columns-of .ensures (f .before .before .args .line) (f .frame-of .ensures)
+columns : (c : tie.After-columns-of)
+    → let a = c .before .before .args in
+    Columns (a .view) (a .line) (a .f) (c .columns-of .result .from) (c .columns-of .result .end)
+columns c = let s = c .before .before in c .columns-of .ensures (s .args .line) (s .pre .1)
 
 returns : tie.Need-returns
 returns c =
@@ -20,8 +21,8 @@ returns c =
 draw-columns-requires : tie.Need-draw-columns-requires
 draw-columns-requires c κs =
     let k = c .before .before .before in
-    let f = k .before in
-    (f .before .before .pre .0, f .frame-of .ensures, columns k .between (c .before .if1 .left))
+    let s = k .before .before in
+    (s .pre .0, s .pre .1, columns k .between (c .before .if1 .left))
 
 returns-2 : tie.Need-returns-2
 returns-2 c =
@@ -29,4 +30,4 @@ returns-2 c =
     drawn-ext _ (columns (d .before .before .before .before) .whole) (d .draw-columns .ensures)
 
 pub draw-line-spec : {M : Type 1} → statement M
-draw-line-spec = tie.close (tie.spec (λ c. search needs) (λ c. search needs) returns draw-columns-requires (λ c. search needs) returns-2)
+draw-line-spec = tie.close (tie.spec (λ c. search needs) returns draw-columns-requires (λ c. search needs) returns-2)
