@@ -7,13 +7,12 @@ ghost use Rattle.shapes.specs.inner.Offsets.{pointOf, endsOf};
 // The greatest radius.
 pub const RADIUS_MOST: u16 = 255;
 
-// The ends lie together, so that they are moved as one number.
 pub struct Line {
+    pub exact: bool,
     pub x0: i16,
     pub y0: i16,
     pub x1: i16,
     pub y1: i16,
-    pub exact: bool,
 }
 
 pub struct Disc {

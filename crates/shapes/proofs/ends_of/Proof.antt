@@ -9,7 +9,7 @@ returns c =
     let three = c .before .before in
     let two = three .before .before in
     let one = two .before .before in
-    let known = one .before .struct-told .given in
+    let known = one .before .struct-told .given .1 in
     let e0 = offset-kept (record { sfits = known .0 .1 }) (one .offset .ensures) in
     let f0 = offset-kept (record { sfits = known .1 .0 .1 }) (two .offset2 .ensures) in
     let e1 = offset-kept (record { sfits = known .1 .1 .0 .1 }) (three .offset3 .ensures) in
