@@ -9,7 +9,7 @@ use borrow.Author.Tests.{lt-ltb, le-ltb, le-leb, lt-leb}
 use lib.Dec.{T, ltb, leb}
 use lib.IntN.{ℤ, pos, negsuc, natAbs, _+ℤ_, _-ℤ_}
 use lib.Signed.{leZ, ltZ, nonNeg, pos-natAbs}
-use mir.Syntax.{w16}
+use mir.Syntax.{w16, w64}
 use mir.Val.{SFits, toZ, ofZ}
 use mir.Facts.{toZ-ofZ, ofZ-toZ}
 use Rattle.numbers.specs.inner.Order.{dist}
@@ -34,7 +34,10 @@ module _ (z : ℤ) (t : T (inRange z)) where
   raised : Diff (z +ℤ pos origin) (plus z + origin) (minus z + 0)
   raised = diff-add (diff-of z) (diff-pos origin)
 
-  pub raised-fits : SFits w16 (z +ℤ pos origin)
+  pub wide-fits : SFits w64 z
+  wide-fits = sfits-diff (diff-of z) (omega (arith, range-parts z t)) (omega (arith, range-parts z t))
+
+  pub raised-fits : SFits w64 (z +ℤ pos origin)
   raised-fits = sfits-diff raised (omega (arith, range-parts z t)) (omega (arith, range-parts z t))
 
   pub raised-nonNeg : T (nonNeg (z +ℤ pos origin))

@@ -65,7 +65,7 @@ pub fn offset(c: i16) -> u64
     ensures { λ r. ⌜ r ≡ offsetOf c ⌝ }
 {
     if in_range(c) {
-        (c + ORIGIN as i16) as u64
+        (c as i64 + ORIGIN as i64) as u64
     } else {
         OFFSET_MOST + 1
     }

@@ -31,16 +31,19 @@ found : (c : tie.Start) {s : Shape} {m : List ℕ} {t : ℕ}
     → DrawnIn (a .view) (inkOf (a .level) (drawnD (a .shape))) (shapeOn (a .shape)) (a .page .now) m t
 found c e d = rw e at d
 
-draw-line-requires : tie.Need-draw-line-requires
-draw-line-requires c κs =
+frame-of-requires : tie.Need-frame-of-requires
+frame-of-requires c κs =
     let m = c .before .before in
     let e : shapeRefusal (line (m .shape .given .0 .0)) ≡ 0 = cc in
-    (start m .pre .0, e)
+    e
+
+draw-line-requires : tie.Need-draw-line-requires
+draw-line-requires c κs = let m = c .before .before .before in (start m .pre .0, c .frame-of .ensures)
 
 returns : tie.Need-returns
 returns c =
     let d = c .before .before in
-    let m = d .before .before .before in
+    let m = d .before .before .before .before in
     let s = start m in
     let e : line (m .shape .given .0 .0) ≡ s .args .shape = cc in
     found s e (d .draw-line .ensures)
@@ -78,6 +81,7 @@ draw-lawful-spec =
     tie.close
     (tie.spec
     (λ c. search needs)
+    frame-of-requires
     draw-line-requires
     (λ c. search needs)
     draw-disc-requires

@@ -2,6 +2,8 @@
 use mathlib.Core.Path.{_≡_}
 use lib.ListN.{length}
 use Rattle.shapes.specs.declared.Shape.the-variants.{Line as line}
+use Rattle.shapes.specs.Limits.{shapeRefusal}
+use Rattle.page.specs.inner.Paint.{Lawful}
 use Rattle.draw.specs.Draw.{drawRefusal}
 use Rattle.draw.proofs.OfKind.{refused-kept, all-lawful, kind-drawn}
 use borrow.Author.Needs.{needs}
@@ -22,17 +24,25 @@ returns c =
     let a = start (c .before) .args in
     refused-kept (a .w) (a .h) (a .clip) (a .level) (line (a .line)) (a .page .now) (found (c .before)) (c .if1 .taken)
 
+-- where nothing is refused the page and the line are lawful
+lawful : (c : tie.After-view-of)
+    → let a = start (c .before .before) .args in
+    Lawful (c .view-of .result) (length (a .page .now)) × (shapeRefusal (line (a .line)) ≡ 0)
+lawful c =
+    let a = start (c .before .before) .args in
+    let b = all-lawful (a .w) (a .h) (a .clip) (a .level) (line (a .line)) (a .page .now) (found (c .before .before)) (c .before .if1 .left) in
+    (rw (c .view-of .ensures) (b .0), b .1)
+
+frame-of-requires : tie.Need-frame-of-requires
+frame-of-requires c κs = lawful (c .before) .1
+
 draw-line-requires : tie.Need-draw-line-requires
-draw-line-requires c κs =
-    let view = c .before in
-    let a = start (view .before .before) .args in
-    let b = all-lawful (a .w) (a .h) (a .clip) (a .level) (line (a .line)) (a .page .now) (found (view .before .before)) (view .before .if1 .left) in
-    (rw (view .view-of .ensures) (b .0), b .1)
+draw-line-requires c κs = (lawful (c .before .before) .0, c .frame-of .ensures)
 
 returns-2 : tie.Need-returns-2
 returns-2 c =
     let done = c .before .before in
-    let view = done .before .before in
+    let view = done .before .before .before in
     let a = start (view .before .before) .args in
     kind-drawn (a .w) (a .h) (a .clip) (a .level) (line (a .line)) (a .page .now) (found (view .before .before)) (view .before .if1 .left)
     (view .view-of .ensures) (done .draw-line .ensures)
@@ -45,6 +55,7 @@ draw-line-spec =
     (λ c κs. search needs)
     returns
     (λ c κs. search needs)
+    frame-of-requires
     draw-line-requires
     (λ c. search needs)
     returns-2)

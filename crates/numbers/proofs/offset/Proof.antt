@@ -6,7 +6,7 @@ use lib.Dec.{T}
 use lib.IntN.{ℤ}
 use mir.Facts.{toZ-ofZ, fits-natAbs}
 use Rattle.numbers.specs.Coordinate.{inRange}
-use Rattle.numbers.proofs.Coordinate.{raised-fits, raised-nonNeg, offset-in, offset-out}
+use Rattle.numbers.proofs.Coordinate.{wide-fits, raised-fits, raised-nonNeg, offset-in, offset-out}
 use Rattle.numbers.proofs.offset.Statement.{statement}
 use Rattle.numbers.proofs.offset.Tie as tie
 
@@ -20,14 +20,21 @@ module _ (c : tie.Then1) where
   t : T (inRange z)
   t = subst T (sym inside) tt
 
-add-result : tie.Need-add-result
-add-result c = let i = t c in search (needs, raised-fits)
+cast-result : tie.Need-cast-result
+cast-result c = rw (toZ-ofZ (c .before .before .fits .c)) (wide-fits (z c) (t c))
 
-cast-result-2 : tie.Need-cast-result-2
-cast-result-2 c = let i = t c in search (needs, raised-fits, raised-nonNeg, fits-natAbs)
+add-result : tie.Need-add-result
+add-result c = rw (toZ-ofZ (c .before .before .fits .c), toZ-ofZ (wide-fits (z c) (t c))) (raised-fits (z c) (t c))
+
+cast-result-3 : tie.Need-cast-result-3
+cast-result-3 c =
+    let i = t c in
+    rw (toZ-ofZ (c .before .before .fits .c), toZ-ofZ (wide-fits (z c) i), toZ-ofZ (raised-fits (z c) i)) (raised-nonNeg (z c) i, search (needs, raised-fits, fits-natAbs))
 
 returns : tie.Need-returns
-returns c = rw (toZ-ofZ (c .before .before .fits .c), toZ-ofZ (raised-fits (z c) (t c))) (offset-in (z c) (inside c))
+returns c =
+    let i = t c in
+    rw (toZ-ofZ (c .before .before .fits .c), toZ-ofZ (wide-fits (z c) i), toZ-ofZ (raised-fits (z c) i)) (offset-in (z c) (inside c))
 
 returns-2 : tie.Need-returns-2
 returns-2 c =
@@ -35,4 +42,14 @@ returns-2 c =
     offset-out (s .args .c) (rw (toZ-ofZ (s .fits .c)) at (sym (c .before .in-range .ensures) ∙ c .if1 .left))
 
 pub offset-spec : {M : Type 1} → statement M
-offset-spec = tie.close (tie.spec (λ c. search needs) (λ c. search needs) add-result cast-result-2 (λ c. search needs) returns returns-2)
+offset-spec =
+    tie.close
+    (tie.spec
+    (λ c κs. search needs)
+    cast-result
+    (λ c. search needs)
+    add-result
+    cast-result-3
+    (λ c. search needs)
+    returns
+    returns-2)
