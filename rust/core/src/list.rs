@@ -202,6 +202,7 @@ impl<'a> Writer<'a> {
 }
 
 /// Nothing, or the refusal of a call on a whole list.
+#[inline]
 pub(crate) fn accepted_list(number: u32, place: usize) -> Result<(), ListRefusal> {
     match number {
         0 => Ok(()),
@@ -214,6 +215,7 @@ pub(crate) fn accepted_list(number: u32, place: usize) -> Result<(), ListRefusal
 
 /// Nothing, or the refusal of any other call. Its place is 0: a library that tells another is not
 /// the one that this wrapper was written for.
+#[inline]
 pub(crate) fn accepted_call(number: u32, place: usize) -> Result<(), Refusal> {
     assert_eq!(place, 0, "refusal {number} of a call has another place");
     accepted_list(number, place).map_err(|refused| refused.refusal)
