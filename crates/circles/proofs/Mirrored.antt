@@ -1,5 +1,5 @@
 -- Laws of pixels that mirror each other about the centre.
-use mathlib.Core.Path.{_≡_, refl, sym, ap, ap₂, _∙_}
+use mathlib.Core.Path.{_≡_, sym, ap, ap₂, _∙_}
 use mathlib.Core.Logic.{_⊎_, inl, inr, ⊎-elim}
 use mathlib.Core.List.{List}
 use Prim.Native.Nat.{ℕ, _+_, _-_, _*_, _≤_, _<_}
@@ -14,7 +14,7 @@ use Rattle.page.proofs.Clip.{Inside, Outside, left-of, right-of, above, below, 
 use Rattle.page.proofs.Drawn.{drawn-ext, drawn-join, drawn-one, drawn-length}
 use Rattle.coverage.specs.inner.Circle.{apart}
 use Rattle.circles.specs.inner.Row.{between, betweenOn, Heights, Measured, RingDrawn}
-use Rattle.circles.specs.inner.Mirrored.{dotted, paired, Sides, sided, rowSides, betweenIn, SidesDrawn, FilledSides, Quarters, Enclosed, quartered, QuartersDrawn}
+use Rattle.circles.specs.inner.Mirrored.{dotted, paired, Sides, rowSides, betweenIn, SidesDrawn, FilledSides, Quarters, Enclosed, quartered, QuartersDrawn}
 use Rattle.circles.specs.declared.Ring.{Ring}
 use Rattle.circles.specs.declared.cover.Widths.{Widths}
 use Rattle.circles.proofs.Chords.{between-far}

@@ -1,5 +1,6 @@
 // Discs and rings on a lent page.
 use coverage::circle::HEIGHTS;
+use coverage::circle::heights;
 use numbers::ORIGIN;
 use numbers::less;
 use page::View;
@@ -19,7 +20,7 @@ ghost use Rattle.coverage.specs.Coverage.{drawnD};
 ghost use Rattle.coverage.specs.inner.OnPage.{shapeOn};
 ghost use Rattle.page.specs.inner.Ink.{inkOf};
 ghost use Rattle.page.specs.inner.Paint.{Lawful, DrawnIn};
-ghost use Rattle.circles.specs.inner.Row.{at, boxed, smallMost, Placed, Ready, RingDrawn};
+ghost use Rattle.circles.specs.inner.Row.{at, boxed, smallMost, Zeros, Placed, Ready, RingDrawn};
 
 mod cover; // cover.rt: coverage by the distances from the centre
 mod mirror; // mirror.rt: rows of which the clip has both sides
@@ -80,30 +81,43 @@ fn draw_held(page: &mut [u8], view: View, ring: Ring, outer: &[u32], inner: &[u3
     rows::draw_rows(page, view, ring, outer, inner)
 }
 
-// Works out the heights of a small ring and draws it, within a clip that is cut down to its box.
+// Works out the heights of a ring in two lent arrays of zeros and draws it, within a clip that is cut down to its box.
+fn draw_by_heights(
+    page: &mut [u8],
+    view: View,
+    ring: Ring,
+    outer: &mut [u32],
+    inner: &mut [u32],
+) -> u64
+    requires { ⌜ Placed view (length (now page)) ring × (ring .hole ≤ ring .radius) × (ring .radius ≤ radiusMost) ⌝ }
+    requires { ⌜ Zeros (now outer) (ring .radius) × Zeros (now inner) (ring .hole) ⌝ }
+    ensures { λ t. ⌜ RingDrawn (inkOf (ring .level) 512) view ring (heightOf (ring .radius)) (heightOf (ring .hole))
+        (view .x0) (view .y0) (view .x1) (view .y1) (now (page .entry)) (now (page .exit)) t ⌝ }
+{
+    heights(outer, ring.radius);
+    heights(inner, ring.hole);
+    draw_held(page, view, ring, outer, inner)
+}
+
+// A small ring takes short arrays, so that the largest radius costs it nothing.
 fn draw_small(page: &mut [u8], view: View, ring: Ring) -> u64
     requires { ⌜ Placed view (length (now page)) ring × (ring .hole ≤ ring .radius) × (ring .radius ≤ smallMost) ⌝ }
     ensures { λ t. ⌜ RingDrawn (inkOf (ring .level) 512) view ring (heightOf (ring .radius)) (heightOf (ring .hole))
         (view .x0) (view .y0) (view .x1) (view .y1) (now (page .entry)) (now (page .exit)) t ⌝ }
 {
     let mut outer = [0u32; SMALL_HEIGHTS];
-    coverage::circle::heights(&mut outer, ring.radius);
     let mut inner = [0u32; SMALL_HEIGHTS];
-    coverage::circle::heights(&mut inner, ring.hole);
-    draw_held(page, view, ring, &outer, &inner)
+    draw_by_heights(page, view, ring, &mut outer, &mut inner)
 }
 
-// The same for any ring.
 fn draw_large(page: &mut [u8], view: View, ring: Ring) -> u64
     requires { ⌜ Placed view (length (now page)) ring × (ring .hole ≤ ring .radius) × (ring .radius ≤ radiusMost) ⌝ }
     ensures { λ t. ⌜ RingDrawn (inkOf (ring .level) 512) view ring (heightOf (ring .radius)) (heightOf (ring .hole))
         (view .x0) (view .y0) (view .x1) (view .y1) (now (page .entry)) (now (page .exit)) t ⌝ }
 {
     let mut outer = [0u32; HEIGHTS];
-    coverage::circle::heights(&mut outer, ring.radius);
     let mut inner = [0u32; HEIGHTS];
-    coverage::circle::heights(&mut inner, ring.hole);
-    draw_held(page, view, ring, &outer, &inner)
+    draw_by_heights(page, view, ring, &mut outer, &mut inner)
 }
 
 // Draws what lies between the circles of a ring.

@@ -6,7 +6,6 @@ use coverage::line::Frame;
 use layout::Layout;
 use page::View;
 use step::Stroke;
-ghost use mathlib.Core.Path.{_≡_};
 ghost use Prim.Native.Nat.{_+_, _≤_};
 ghost use lib.ListN.{length};
 ghost use Rattle.numbers.specs.inner.Offset.{offsetMost};

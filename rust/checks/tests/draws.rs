@@ -54,6 +54,7 @@ fn wanted() -> Vec<String> {
             "cut at the right",
             "cut at the top",
             "cut at the bottom",
+            "cut nowhere",
             "leaves touched bytes",
         ];
         wanted.extend(drawn.map(|class| format!("{kind} {class}")));
@@ -145,7 +146,8 @@ fn settings_classes(call: &ShapeCall) -> Vec<String> {
     classes
 }
 
-/// The sides of the clip on which the shape covers both the pixel inside and the one outside.
+/// The sides of the clip on which the shape covers both the pixel inside and the one outside; or
+/// that there is none.
 fn cut_classes(call: &ShapeCall) -> Vec<String> {
     let Clip { x0, y0, x1, y1 } = call.clip;
     let covers = |x: i32, y: i32| exact_coverage(&call.shape, x, y).n > 0;
@@ -164,6 +166,9 @@ fn cut_classes(call: &ShapeCall) -> Vec<String> {
         ("top", cut_in_row(y0 - 1, y0)),
         ("bottom", cut_in_row(y1 - 1, y1)),
     ];
+    if cuts.iter().all(|(_, met)| !met) {
+        return vec!["cut nowhere".to_string()];
+    }
     let met = cuts.into_iter().filter(|(_, met)| *met);
     met.map(|(side, _)| format!("cut at the {side}")).collect()
 }
@@ -238,24 +243,75 @@ fn describe(call: &ShapeCall) -> String {
     format!("{shape:?} at level {level} under {clip:?} on {width} by {height}, {length} bytes")
 }
 
+/// Draws by the reference and by the library, which must agree.
+fn agreed(call: &ShapeCall) -> (ShapeCall, Answer) {
+    let (mut expected, mut found) = (call.clone(), call.clone());
+    let expected_answer = reference_draw(&mut expected);
+    let found_answer = library::draw_shape(&mut found);
+    assert_eq!(found_answer, expected_answer, "{}", describe(call));
+    // Equal bytes past W·H too, and after a refusal equal to those before it.
+    assert!(found.page == expected.page, "{}", describe(call));
+    if expected_answer.is_err() {
+        assert!(found.page == call.page, "{}", describe(call));
+    }
+    (expected, expected_answer)
+}
+
 #[test]
 fn random_draws_agree() {
     let mut random = Random::new(2);
     let mut tally = Tally::default();
     for _ in 0..DRAWS {
         let call = drawing(&mut random);
-        let (mut expected, mut found) = (call.clone(), call.clone());
-        let expected_answer = reference_draw(&mut expected);
-        let found_answer = library::draw_shape(&mut found);
-        assert_eq!(found_answer, expected_answer, "{}", describe(&call));
-        // Equal bytes past W·H too, and after a refusal equal to those before it.
-        assert!(found.page == expected.page, "{}", describe(&call));
-        if expected_answer.is_err() {
-            assert!(found.page == call.page, "{}", describe(&call));
-        }
-        tally.meet(classes(&call, &expected, &expected_answer));
+        let (expected, answer) = agreed(&call);
+        tally.meet(classes(&call, &expected, &answer));
     }
     tally.require(wanted(), LEAST);
+}
+
+/// Circles that just fit the clip, and those that each side of it cuts by a pixel: radii around
+/// the one up to which heights are held in a short array, discs and rings of several widths.
+#[test]
+fn circles_at_the_sides_of_a_clip_agree() {
+    for radius in [1, 2, 5, 31, 32, 33, 34] {
+        let side = 2 * radius + 4;
+        let middle = (side / 2) as i16;
+        let mut shapes = vec![Shape::Disc(Disc {
+            x: middle,
+            y: middle,
+            radius,
+        })];
+        let widths = [1, radius / 2, radius - 1, radius];
+        shapes.extend(widths.into_iter().filter(|width| *width > 0).map(|width| {
+            Shape::Ring(Ring {
+                x: middle,
+                y: middle,
+                radius,
+                width,
+            })
+        }));
+        for (shape, cut) in shapes
+            .iter()
+            .flat_map(|shape| (0..16).map(move |cut| (shape, cut)))
+        {
+            let edge = |bit: u16| 2 + (cut >> bit & 1);
+            let call = ShapeCall {
+                page: vec![90; page_length(side, side)],
+                width: side,
+                height: side,
+                clip: Clip {
+                    x0: edge(0),
+                    y0: edge(1),
+                    x1: side - edge(2),
+                    y1: side - edge(3),
+                },
+                level: 200,
+                shape: shape.clone(),
+            };
+            let (_, answer) = agreed(&call);
+            assert!(answer.is_ok(), "{}", describe(&call));
+        }
+    }
 }
 
 #[test]

@@ -16,7 +16,12 @@ encloses-requires-2 : tie.Need-encloses-requires-2
 encloses-requires-2 c κs =
     let s = c .before .before .before .before .before in
     let law = s .pre .placed .lawful in
-    (omega (arith, law .y-order, law .y-most, law .h-most), omega (arith, law .y-most, law .h-most), s .pre .placed .down, s .pre .circles .nested .most)
+    let nested = s .pre .circles .nested in (
+      omega (arith, law .y-order, law .y-most, law .h-most),
+      omega (arith, law .y-most, law .h-most),
+      s .pre .placed .down,
+      omega (arith, nested .least, nested .most),
+    )
 
 draw-enclosed-requires : tie.Need-draw-enclosed-requires
 draw-enclosed-requires c κs =

@@ -10,7 +10,7 @@ use Rattle.coverage.specs.inner.Circle.{apart}
 use Rattle.circles.specs.inner.Row.{between}
 use Rattle.circles.specs.declared.Ring.{Ring}
 
--- bytes j and k blended by an ink at one coverage
+-- byte k blended by an ink at coverage n, and bytes j and k
 abbrev pub dotted : (ℕ → ℕ → ℕ) → ℕ → ℕ → List ℕ → List ℕ
 dotted ink n k l = set l k (dot ink n (getD l k 0))
 

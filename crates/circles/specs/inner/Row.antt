@@ -35,6 +35,11 @@ pub record Nested (Y Z : ℕ → ℕ) (R r : ℕ) : Type 0 where
   pub most : R ≤ radiusMost
   pub within : (k : ℕ) → Z k ≤ Y k
 
+-- an array of zeros, with room for the heights of a circle of radius R
+pub record Zeros (hs : List ℕ) (R : ℕ) : Type 0 where
+  pub room : R + 2 ≤ length hs
+  pub each : (k : ℕ) → at hs k ≡ 0
+
 -- two arrays hold the heights of a ring's circles, those at 0 to the radius at least
 pub record Circles (outer inner : List ℕ) (ring : Ring) : Type 0 where
   pub nested : Nested (at outer) (at inner) (ring .radius) (ring .hole)

@@ -1,5 +1,5 @@
 -- The two pixels lie on the page, on either side of the centre, and each is read, blended and stored.
-use mathlib.Core.Path.{_≡_, refl, sym, _∙_}
+use mathlib.Core.Path.{refl, sym, _∙_}
 use Prim.Native.Nat.{_+_, _*_, _≤_}
 use native.Mathlib.Omega.{arith}
 use lib.ListN.{length-set}

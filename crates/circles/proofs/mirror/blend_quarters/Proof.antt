@@ -1,13 +1,13 @@
 -- What lies from the first distance up to a is drawn in both rows.
 use mathlib.Core.Path.{_≡_, ap, _∙_}
 use mathlib.Core.Logic.{inl}
-use Prim.Native.Nat.{ℕ, _+_, _-_, _*_, _≤_}
+use Prim.Native.Nat.{_+_, _-_, _*_, _≤_}
 use native.Mathlib.Omega.{arith}
 use Rattle.page.specs.inner.Ink.{inkOf}
 use Rattle.page.specs.inner.Paint.{touch, clipped}
 use Rattle.page.proofs.Drawn.{drawn-none, drawn-join, drawn-length}
 use Rattle.circles.specs.inner.Row.{at, between}
-use Rattle.circles.specs.inner.Mirrored.{rowSides, betweenIn, quartered, QuartersDrawn}
+use Rattle.circles.specs.inner.Mirrored.{betweenIn, quartered, QuartersDrawn}
 use Rattle.circles.proofs.Row.{ready-after}
 use Rattle.circles.proofs.Mirrored.{pair-same, sides-nearer, lower-at, upper-at, rows-join, quarters-cut, quarters-none}
 use borrow.Author.Needs.{needs}

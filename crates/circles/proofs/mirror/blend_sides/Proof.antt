@@ -1,6 +1,6 @@
 -- What lies from the first distance up to a is drawn.
 use mathlib.Core.Path.{_≡_, ap, _∙_}
-use Prim.Native.Nat.{ℕ, _+_, _-_, _*_, _≤_}
+use Prim.Native.Nat.{_+_, _-_, _*_, _≤_}
 use native.Mathlib.Omega.{arith}
 use Rattle.page.specs.inner.Ink.{inkOf}
 use Rattle.page.specs.inner.Paint.{touch}

@@ -1,5 +1,4 @@
 -- Edge, whole part and inner edge never meet, and nothing of the row lies nearer or further.
-use mathlib.Core.Path.{_≡_}
 use Prim.Native.Nat.{ℕ, _+_}
 use native.Mathlib.Omega.{arith}
 use Rattle.numbers.specs.inner.Offset.{origin}

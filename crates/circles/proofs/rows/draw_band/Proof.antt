@@ -1,6 +1,5 @@
 -- The three stretches never meet, and together they are the band.
-use mathlib.Core.Path.{_≡_}
-use Prim.Native.Nat.{ℕ, _+_, _≤_}
+use Prim.Native.Nat.{_+_, _≤_}
 use native.Mathlib.Omega.{arith}
 use Rattle.page.specs.inner.Ink.{inkOf}
 use Rattle.page.proofs.Drawn.{drawn-count, drawn-band}

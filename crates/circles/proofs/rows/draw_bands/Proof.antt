@@ -1,5 +1,4 @@
 -- Outside its bands the row has nothing.
-use Prim.Native.Nat.{_+_}
 use native.Mathlib.Omega.{arith}
 use Rattle.page.proofs.Drawn.{drawn-count}
 use Rattle.circles.proofs.Row.{ready-after, solid-band, left-band, right-band, solid-row, hollow-row}
