@@ -110,6 +110,7 @@ fn draw_small(page: &mut [u8], view: View, ring: Ring) -> u64
     draw_by_heights(page, view, ring, &mut outer, &mut inner)
 }
 
+// Any other takes arrays for the greatest radius.
 fn draw_large(page: &mut [u8], view: View, ring: Ring) -> u64
     requires { ⌜ Placed view (length (now page)) ring × (ring .hole ≤ ring .radius) × (ring .radius ≤ radiusMost) ⌝ }
     ensures { λ t. ⌜ RingDrawn (inkOf (ring .level) 512) view ring (heightOf (ring .radius)) (heightOf (ring .hole))

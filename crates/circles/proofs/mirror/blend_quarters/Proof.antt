@@ -73,7 +73,8 @@ loop-again c =
           (l .inv .3)
           (drawn-join (quartered (a .ring) (clipped (l .a) (a .b) (l .a + 1) (a .b + 1) (between Y Z)))
           (rows-join (between Y Z) rows (l .a) (l .a + 1))
-          (pair-same (a .ring) (betweenIn Y Z (a .ring)) (a .y) (l .a) (n .result) (n .ensures .0 ∙ ap (between Y Z (l .a)) (lower-at rows)) (c .before .before .before .before .before .before .before .blend-pair .ensures))
+          (pair-same (a .ring) (betweenIn Y Z (a .ring)) (a .y) (l .a) (n .result) (n .ensures .0 ∙ ap (between Y Z (l .a)) (lower-at rows))
+          (c .before .before .before .before .before .before .before .blend-pair .ensures))
           (pair-same (a .ring) (betweenIn Y Z (a .ring)) (a .z) (l .a) (n .result) (n .ensures .0 ∙ ap (between Y Z (l .a)) (upper-at rows)) (c .before .before .before .blend-pair2 .ensures)))),
     )
 

@@ -34,7 +34,8 @@ Z s = at (s .args .inner .now)
 lower-filled : (c : tie.After-fill-sides)
     → let s = start (edge c) in
     let a = s .args in
-    SidesDrawn (inkOf (a .ring .level) 512) (a .view) (a .ring) (Y s) (Z s) (a .y) (a .row .inner) (a .row .whole) (edge c .blend-quarters .last .0) (c .fill-sides .last .0) (c .fill-sides .result)
+    SidesDrawn (inkOf (a .ring .level) 512) (a .view) (a .ring) (Y s) (Z s) (a .y) (a .row .inner) (a .row .whole)
+    (edge c .blend-quarters .last .0) (c .fill-sides .last .0) (c .fill-sides .result)
 lower-filled c =
     let s = start (edge c) in
     let a = s .args in
@@ -43,7 +44,8 @@ lower-filled c =
 upper-filled : (c : tie.After-fill-sides2)
     → let s = start (edge (lower c)) in
     let a = s .args in
-    SidesDrawn (inkOf (a .ring .level) 512) (a .view) (a .ring) (Y s) (Z s) (a .z) (a .row .inner) (a .row .whole) (lower c .fill-sides .last .0) (c .fill-sides2 .last .0) (c .fill-sides2 .result)
+    SidesDrawn (inkOf (a .ring .level) 512) (a .view) (a .ring) (Y s) (Z s) (a .z) (a .row .inner) (a .row .whole)
+    (lower c .fill-sides .last .0) (c .fill-sides2 .last .0) (c .fill-sides2 .result)
 upper-filled c =
     let s = start (edge (lower c)) in
     let a = s .args in

@@ -38,7 +38,8 @@ measured s = rw (s .pre .1 .0) at (s .pre .1 .2)
 filled : (c : tie.After-fill-sides)
     → let s = start (edge c) in
     let a = s .args in
-    SidesDrawn (inkOf (a .ring .level) 512) (a .view) (a .ring) (Y s) (Z s) (a .y) (a .row .inner) (a .row .whole) (edge c .blend-sides .last .0) (c .fill-sides .last .0) (c .fill-sides .result)
+    SidesDrawn (inkOf (a .ring .level) 512) (a .view) (a .ring) (Y s) (Z s) (a .y) (a .row .inner) (a .row .whole)
+    (edge c .blend-sides .last .0) (c .fill-sides .last .0) (c .fill-sides .result)
 filled c =
     let s = start (edge c) in
     let a = s .args in
@@ -47,7 +48,8 @@ filled c =
 solid : (c : tie.After-fill-sides)
     → let s = start (edge c) in
     let a = s .args in
-    SidesDrawn (inkOf (a .ring .level) 512) (a .view) (a .ring) (Y s) (Z s) (a .y) (a .row .inner) (a .row .outer) (a .page .now) (c .fill-sides .last .0) (edge c .blend-sides .result + c .fill-sides .result)
+    SidesDrawn (inkOf (a .ring .level) 512) (a .view) (a .ring) (Y s) (Z s) (a .y) (a .row .inner) (a .row .outer)
+    (a .page .now) (c .fill-sides .last .0) (edge c .blend-sides .result + c .fill-sides .result)
 solid c =
     let s = start (edge c) in
     let a = s .args in
