@@ -1,17 +1,21 @@
-/* Misuses every call: numbers out of their ranges and far out of 16 bits, kinds that are no shape,
- * no memory at all, lists cut at each byte, places past the list. Each answer must tell the refusal
- * and its place, and what was lent must be as it was. */
+/* Misuses every call: numbers out of their ranges and far out of 16 bits, versions that there are
+ * not, kinds that are no shape or that a version does not have, no memory at all, lists cut at each
+ * byte, places past the list. Each answer must tell the refusal and its place, and what was lent
+ * must be as it was. */
 #include "greystroke.h"
 
 #include <stdbool.h>
 #include <stdio.h>
 #include <string.h>
 
-enum { SIDE = 8, LEVEL = 200, BYTE = 170, ROOM = 80, LIST_MOST = 65536 };
+enum { SIDE = 8, LEVEL = 200, PLAYER = 5, PLAYERS = 8, BYTE = 170, ROOM = 80, LIST_MOST = 65536 };
 
 #define COUNT(array) (sizeof(array) / sizeof *(array))
 
 static const struct greystroke_clip whole = {0, 0, SIDE, SIDE};
+static const struct greystroke_basis none = {0, 0, 0};
+static const struct greystroke_basis basis_1 = {1, SIDE, SIDE};
+static const struct greystroke_basis basis_2 = {2, SIDE, SIDE};
 
 static uint8_t page[SIDE * SIDE];
 static uint8_t room[ROOM];
@@ -44,14 +48,18 @@ static void expect(
         expect(#call, got.refusal, got.place, (uint32_t)(number), (at)); \
     } while (0)
 
-/* The same of a writer that holds a place, w and h, which it must answer again. */
-#define WRITE_REFUSED(number, held, w_held, h_held, call)               \
+static bool same(struct greystroke_basis one, struct greystroke_basis other) {
+    return one.version == other.version && one.w == other.w && one.h == other.h;
+}
+
+/* The same of a writer that holds a place and a basis, which it must answer again. */
+#define WRITE_REFUSED(number, held_place, held, call)                   \
     do {                                                                \
         struct greystroke_write_answer got = call;                      \
         expect(#call, got.refusal, got.place, (uint32_t)(number), 0);   \
-        if (got.next != (held) || got.w != (w_held) || got.h != (h_held)) { \
+        if (got.next != (held_place) || !same(got.basis, held)) {       \
             wrong = true;                                               \
-            printf("%s: place, W or H has changed\n", #call);           \
+            printf("%s: the place or the basis has changed\n", #call);  \
         }                                                               \
     } while (0)
 
@@ -62,8 +70,10 @@ static void try_shape(uint32_t number, struct greystroke_shape shape) {
     REFUSED(draw, number, 0,
         greystroke_draw_shape(page, sizeof page, SIDE, SIDE, whole, LEVEL, shape));
     REFUSED(coverage, number, 0, greystroke_coverage(shape, 0, 0));
-    WRITE_REFUSED(number, 10, SIDE, SIDE,
-        greystroke_write_shape(room, sizeof room, 10, SIDE, SIDE, shape));
+    WRITE_REFUSED(number, 10, basis_1,
+        greystroke_write_shape(room, sizeof room, 10, basis_1, shape));
+    WRITE_REFUSED(number, 10, basis_2,
+        greystroke_write_shape(room, sizeof room, 10, basis_2, shape));
 }
 
 static const struct greystroke_shape lawful[] = {
@@ -79,7 +89,7 @@ static const int32_t no_coordinate[] = {4096, -4097, 32767, -32768, 65536, 65537
 static const int32_t no_measure[] = {0, 256, -1, 65535, 65536, 65537, -65535, INT32_MAX, INT32_MIN};
 
 static void try_shapes(void) {
-    static const uint32_t no_shape[] = {0, 1, 2, 7, 255, 256 + 3, 65536 + 3, UINT32_MAX};
+    static const uint32_t no_shape[] = {0, 1, 2, 7, 8, 255, 256 + 3, 65536 + 3, UINT32_MAX};
     for (size_t i = 0; i < COUNT(no_shape); i++) {
         struct greystroke_shape shape = {no_shape[i], {1, 1, 5, 3, 0, 0}};
         try_shape(GREYSTROKE_UNKNOWN_KIND, shape);
@@ -87,8 +97,8 @@ static void try_shapes(void) {
         REFUSED(draw, GREYSTROKE_UNKNOWN_KIND, 0,
             greystroke_draw_shape(NULL, 0, 0, 0, whole, LEVEL, shape));
         REFUSED(coverage, GREYSTROKE_UNKNOWN_KIND, 0, greystroke_coverage(shape, INT32_MAX, 0));
-        WRITE_REFUSED(GREYSTROKE_UNKNOWN_KIND, 0, 0, 0,
-            greystroke_write_shape(NULL, 0, 0, 0, 0, shape));
+        WRITE_REFUSED(GREYSTROKE_UNKNOWN_KIND, 0, none,
+            greystroke_write_shape(NULL, 0, 0, none, shape));
     }
     for (size_t s = 0; s < COUNT(lawful); s++)
         for (size_t i = 0; i < (s < 2 ? 4 : 2); i++)
@@ -119,29 +129,68 @@ static void try_pixels(void) {
 
 /* ---- pages ---- */
 
-static void try_size(uint32_t w, uint32_t h) {
+/* A version, W and H in each call that takes them, before anything else is looked at. */
+static void try_basis(uint32_t number, struct greystroke_basis basis) {
+    static const struct greystroke_basis held = {UINT32_MAX, SIDE, UINT32_MAX};
+    static const struct greystroke_clip no_clip = {5, 0, 4, SIDE};
     static const uint8_t end[] = {0};
+    REFUSED(read, number, 0, greystroke_read_record(end, sizeof end, basis));
+    REFUSED(read, number, 0, greystroke_read_record(NULL, 0, basis));
+    WRITE_REFUSED(number, 7, held,
+        greystroke_write_header(room, sizeof room, 7, held, basis, 0));
+    WRITE_REFUSED(number, 7, held, greystroke_write_header(NULL, 0, 7, held, basis, 0));
+    WRITE_REFUSED(number, 10, basis, greystroke_write_end(room, sizeof room, 10, basis));
+    WRITE_REFUSED(number, 9, basis, greystroke_write_end(NULL, 0, 9, basis));
+    WRITE_REFUSED(number, 10, basis,
+        greystroke_write_clip(room, sizeof room, 10, basis, no_clip));
+    WRITE_REFUSED(number, 10, basis,
+        greystroke_write_level(room, sizeof room, 10, basis, LEVEL));
+    WRITE_REFUSED(number, 10, basis,
+        greystroke_write_player(room, sizeof room, 10, basis, PLAYERS));
+    WRITE_REFUSED(number, 10, basis,
+        greystroke_write_shape(room, sizeof room, 10, basis, greystroke_disc(4, 4, 0)));
+}
+
+static void try_size(uint32_t w, uint32_t h) {
     REFUSED(draw, GREYSTROKE_PAGE_SIZE, 0,
         greystroke_draw_shape(page, sizeof page, w, h, whole, LEVEL, lawful[2]));
-    REFUSED(read, GREYSTROKE_PAGE_SIZE, 0, greystroke_read_record(end, sizeof end, w, h));
-    REFUSED(read, GREYSTROKE_PAGE_SIZE, 0, greystroke_read_record(NULL, 0, w, h));
-    WRITE_REFUSED(GREYSTROKE_PAGE_SIZE, 7, SIDE, UINT32_MAX,
-        greystroke_write_header(room, sizeof room, 7, SIDE, UINT32_MAX, w, h, 0));
-    WRITE_REFUSED(GREYSTROKE_PAGE_SIZE, 10, w, h,
-        greystroke_write_end(room, sizeof room, 10, w, h));
-    WRITE_REFUSED(GREYSTROKE_PAGE_SIZE, 10, w, h,
-        greystroke_write_clip(room, sizeof room, 10, w, h, whole));
-    WRITE_REFUSED(GREYSTROKE_PAGE_SIZE, 10, w, h,
-        greystroke_write_level(room, sizeof room, 10, w, h, LEVEL));
-    WRITE_REFUSED(GREYSTROKE_PAGE_SIZE, 10, w, h,
-        greystroke_write_shape(room, sizeof room, 10, w, h, lawful[2]));
+    for (uint32_t version = 1; version <= 2; version++)
+        try_basis(GREYSTROKE_PAGE_SIZE, (struct greystroke_basis){version, w, h});
+}
+
+static void try_versions(void) {
+    /* Cut to 16 bits or to 8, the last four would be versions. */
+    static const uint32_t no_version[] = {0, 3, 255, 65535, 65536, UINT32_MAX, 256 + 1, 256 + 2,
+        65536 + 1, 65536 + 2};
+    for (size_t k = 0; k < COUNT(no_version); k++) {
+        try_basis(GREYSTROKE_WRONG_VERSION, (struct greystroke_basis){no_version[k], SIDE, SIDE});
+        try_basis(GREYSTROKE_WRONG_VERSION, (struct greystroke_basis){no_version[k], 0, SIDE});
+        try_basis(GREYSTROKE_WRONG_VERSION, (struct greystroke_basis){no_version[k], SIDE, 1025});
+    }
 }
 
 static void try_clip(struct greystroke_clip clip) {
     REFUSED(draw, GREYSTROKE_CLIP, 0,
         greystroke_draw_shape(page, sizeof page, SIDE, SIDE, clip, LEVEL, lawful[2]));
-    WRITE_REFUSED(GREYSTROKE_CLIP, 10, SIDE, SIDE,
-        greystroke_write_clip(room, sizeof room, 10, SIDE, SIDE, clip));
+    WRITE_REFUSED(GREYSTROKE_CLIP, 10, basis_2,
+        greystroke_write_clip(room, sizeof room, 10, basis_2, clip));
+}
+
+/* Version 1 has no player, and version 2 eight. Both come before the want of room. */
+static void try_players(void) {
+    for (unsigned player = 0; player <= UINT8_MAX; player++) {
+        uint8_t byte = (uint8_t)player;
+        WRITE_REFUSED(GREYSTROKE_UNKNOWN_KIND, 10, basis_1,
+            greystroke_write_player(room, sizeof room, 10, basis_1, byte));
+        WRITE_REFUSED(GREYSTROKE_UNKNOWN_KIND, 0, basis_1,
+            greystroke_write_player(NULL, 0, 0, basis_1, byte));
+        if (player < PLAYERS)
+            continue;
+        WRITE_REFUSED(GREYSTROKE_PLAYER, 10, basis_2,
+            greystroke_write_player(room, sizeof room, 10, basis_2, byte));
+        WRITE_REFUSED(GREYSTROKE_PLAYER, 0, basis_2,
+            greystroke_write_player(NULL, 0, 0, basis_2, byte));
+    }
 }
 
 static void try_pages(void) {
@@ -170,15 +219,17 @@ static void try_pages(void) {
 /* ---- places ---- */
 
 static void try_place(uint8_t *list, size_t length, size_t place) {
-    WRITE_REFUSED(GREYSTROKE_NO_ROOM, place, SIDE, SIDE,
-        greystroke_write_end(list, length, place, SIDE, SIDE));
-    WRITE_REFUSED(GREYSTROKE_NO_ROOM, place, SIDE, SIDE,
-        greystroke_write_clip(list, length, place, SIDE, SIDE, whole));
-    WRITE_REFUSED(GREYSTROKE_NO_ROOM, place, SIDE, SIDE,
-        greystroke_write_level(list, length, place, SIDE, SIDE, LEVEL));
+    WRITE_REFUSED(GREYSTROKE_NO_ROOM, place, basis_2,
+        greystroke_write_end(list, length, place, basis_2));
+    WRITE_REFUSED(GREYSTROKE_NO_ROOM, place, basis_2,
+        greystroke_write_clip(list, length, place, basis_2, whole));
+    WRITE_REFUSED(GREYSTROKE_NO_ROOM, place, basis_2,
+        greystroke_write_level(list, length, place, basis_2, LEVEL));
+    WRITE_REFUSED(GREYSTROKE_NO_ROOM, place, basis_2,
+        greystroke_write_player(list, length, place, basis_2, PLAYER));
     for (size_t s = 0; s < COUNT(lawful); s++)
-        WRITE_REFUSED(GREYSTROKE_NO_ROOM, place, SIDE, SIDE,
-            greystroke_write_shape(list, length, place, SIDE, SIDE, lawful[s]));
+        WRITE_REFUSED(GREYSTROKE_NO_ROOM, place, basis_2,
+            greystroke_write_shape(list, length, place, basis_2, lawful[s]));
 }
 
 static void try_places(void) {
@@ -190,20 +241,23 @@ static void try_places(void) {
     try_place(NULL, 0, 0);
     try_place(NULL, 0, 10);
     for (size_t n = 0; n < 10; n++)
-        WRITE_REFUSED(GREYSTROKE_NO_ROOM, 3, 0, SIDE,
-            greystroke_write_header(room, n, 3, 0, SIDE, SIDE, SIDE, 0));
-    WRITE_REFUSED(GREYSTROKE_NO_ROOM, 0, 0, 0,
-        greystroke_write_header(NULL, 0, 0, 0, 0, SIDE, SIDE, 0));
+        WRITE_REFUSED(GREYSTROKE_NO_ROOM, 3, basis_1,
+            greystroke_write_header(room, n, 3, basis_1, basis_2, 0));
+    WRITE_REFUSED(GREYSTROKE_NO_ROOM, 0, none,
+        greystroke_write_header(NULL, 0, 0, none, basis_1, 0));
 }
 
 /* ---- lists ---- */
+
+/* Which record of the list is which. */
+enum { CLIP_RECORD = 0, PLAYER_RECORD = 2, FIRST_SHAPE = 3, DISC_RECORD = 5, RING_RECORD = 6 };
 
 static uint8_t list[ROOM];
 static size_t starts[16]; /* where each record begins; the last is the list's length */
 static size_t records;
 
 static void took(struct greystroke_write_answer answer) {
-    if (answer.refusal != 0 || answer.w != SIDE || answer.h != SIDE) {
+    if (answer.refusal != 0 || !same(answer.basis, basis_2)) {
         wrong = true;
         printf("the list was not written: %u\n", (unsigned)answer.refusal);
     }
@@ -211,18 +265,28 @@ static void took(struct greystroke_write_answer answer) {
 }
 
 static void write_list(void) {
-    took(greystroke_write_header(list, sizeof list, 0, 0, 0, SIDE, SIDE, 9));
-    took(greystroke_write_clip(list, sizeof list, starts[records - 1], SIDE, SIDE, whole));
-    took(greystroke_write_level(list, sizeof list, starts[records - 1], SIDE, SIDE, LEVEL));
+    took(greystroke_write_header(list, sizeof list, 0, none, basis_2, 9));
+    took(greystroke_write_clip(list, sizeof list, starts[records - 1], basis_2, whole));
+    took(greystroke_write_level(list, sizeof list, starts[records - 1], basis_2, LEVEL));
+    took(greystroke_write_player(list, sizeof list, starts[records - 1], basis_2, PLAYER));
     for (size_t s = 0; s < COUNT(lawful); s++)
-        took(greystroke_write_shape(
-            list, sizeof list, starts[records - 1], SIDE, SIDE, lawful[s]));
-    took(greystroke_write_end(list, sizeof list, starts[records - 1], SIDE, SIDE));
+        took(greystroke_write_shape(list, sizeof list, starts[records - 1], basis_2, lawful[s]));
+    took(greystroke_write_end(list, sizeof list, starts[records - 1], basis_2));
+}
+
+/* Touches are counted of this player and of no other. */
+static void expect_touches(struct greystroke_list_answer drawn, size_t player) {
+    for (size_t p = 0; p < PLAYERS; p++)
+        if ((drawn.touched[p] > 0) != (p == player)) {
+            wrong = true;
+            printf("%llu touches of player %zu\n", (unsigned long long)drawn.touched[p], p);
+        }
 }
 
 static void try_list(uint32_t number, size_t place, const uint8_t *bytes, size_t length) {
     REFUSED(check, number, place, greystroke_check_list(bytes, length, sizeof page));
     REFUSED(list, number, place, greystroke_draw_list(page, sizeof page, bytes, length));
+    expect_touches(greystroke_draw_list(page, sizeof page, bytes, length), PLAYERS);
 }
 
 /* The list with another byte. */
@@ -233,7 +297,7 @@ static void try_byte(uint32_t number, size_t place, size_t at, uint8_t byte) {
     list[at] = kept;
 }
 
-static void try_lists(void) {
+static void try_lengths(void) {
     size_t length = starts[records - 1];
     try_list(GREYSTROKE_CUT_SHORT, 0, NULL, 0);
     for (size_t n = 0, r = 0; n < length; n++) {
@@ -250,50 +314,76 @@ static void try_lists(void) {
         REFUSED(list, GREYSTROKE_PAGE_TOO_SHORT, 0, greystroke_draw_list(page, n, list, length));
     }
     REFUSED(list, GREYSTROKE_PAGE_TOO_SHORT, 0, greystroke_draw_list(NULL, 0, list, length));
+}
+
+static void try_bytes(void) {
     for (size_t i = 0; i < 3; i++)
         try_byte(GREYSTROKE_WRONG_MARK, 0, i, 'i');
-    try_byte(GREYSTROKE_WRONG_VERSION, 0, 3, 2);
+    try_byte(GREYSTROKE_WRONG_VERSION, 0, 3, 0);
+    try_byte(GREYSTROKE_WRONG_VERSION, 0, 3, 3);
     try_byte(GREYSTROKE_WRONG_VERSION, 0, 4, 1);
     for (size_t i = 5; i < 9; i++)
         try_byte(GREYSTROKE_PAGE_SIZE, 0, i, i % 2 == 1 ? 0 : 5);
     for (size_t r = 0; r + 1 < records; r++)
-        try_byte(GREYSTROKE_UNKNOWN_KIND, starts[r], starts[r], 7);
-    try_byte(GREYSTROKE_CLIP, starts[0], starts[0] + 6, 1);
-    for (size_t r = 2; r < 6; r++)
+        try_byte(GREYSTROKE_UNKNOWN_KIND, starts[r], starts[r], 8);
+    /* in version 1 the player is the first record that is refused */
+    try_byte(GREYSTROKE_UNKNOWN_KIND, starts[PLAYER_RECORD], 3, 1);
+    try_byte(GREYSTROKE_PLAYER, starts[PLAYER_RECORD], starts[PLAYER_RECORD] + 1, PLAYERS);
+    try_byte(GREYSTROKE_PLAYER, starts[PLAYER_RECORD], starts[PLAYER_RECORD] + 1, UINT8_MAX);
+    try_byte(GREYSTROKE_CLIP, starts[CLIP_RECORD], starts[CLIP_RECORD] + 6, 1);
+    for (size_t r = FIRST_SHAPE; r < FIRST_SHAPE + COUNT(lawful); r++)
         try_byte(GREYSTROKE_COORDINATE, starts[r], starts[r] + 2, 16);
-    try_byte(GREYSTROKE_RADIUS, starts[4], starts[4] + 5, 0);
-    try_byte(GREYSTROKE_RING_WIDTH, starts[5], starts[5] + 6, 4);
+    try_byte(GREYSTROKE_RADIUS, starts[DISC_RECORD], starts[DISC_RECORD] + 5, 0);
+    try_byte(GREYSTROKE_RING_WIDTH, starts[RING_RECORD], starts[RING_RECORD] + 6, 4);
 }
 
 static void try_records(void) {
-    static const uint8_t unknown[] = {7, 0, 0, 0, 0, 0, 0, 0, 0, 0};
-    REFUSED(read, GREYSTROKE_CUT_SHORT, 0, greystroke_read_record(NULL, 0, SIDE, SIDE));
+    static const struct greystroke_basis narrower = {2, SIDE - 1, SIDE};
+    static const uint8_t unknown[] = {8, 0, 0, 0, 0, 0, 0, 0, 0, 0};
+    static const uint8_t player[] = {GREYSTROKE_KIND_PLAYER, PLAYERS};
+    REFUSED(read, GREYSTROKE_CUT_SHORT, 0, greystroke_read_record(NULL, 0, basis_2));
     for (size_t r = 0; r + 1 < records; r++)
         for (size_t n = 0; n < starts[r + 1] - starts[r]; n++)
             REFUSED(read, GREYSTROKE_CUT_SHORT, 0,
-                greystroke_read_record(list + starts[r], n, SIDE, SIDE));
+                greystroke_read_record(list + starts[r], n, basis_2));
     for (size_t n = 1; n <= sizeof unknown; n++)
-        REFUSED(read, GREYSTROKE_UNKNOWN_KIND, 0, greystroke_read_record(unknown, n, SIDE, SIDE));
+        REFUSED(read, GREYSTROKE_UNKNOWN_KIND, 0, greystroke_read_record(unknown, n, basis_2));
+    REFUSED(read, GREYSTROKE_PLAYER, 0, greystroke_read_record(player, sizeof player, basis_2));
+    for (size_t n = 1; n <= sizeof player; n++)
+        REFUSED(read, GREYSTROKE_UNKNOWN_KIND, 0, greystroke_read_record(player, n, basis_1));
     REFUSED(read, GREYSTROKE_CLIP, 0,
-        greystroke_read_record(list + starts[0], sizeof list - starts[0], SIDE - 1, SIDE));
+        greystroke_read_record(list + starts[0], sizeof list - starts[0], narrower));
 }
 
-/* What is lawful is taken, and the reader answers the shape that was written. */
-static void try_lawful(void) {
-    for (size_t s = 0; s < COUNT(lawful); s++) {
-        struct greystroke_read_answer read =
-            greystroke_read_record(list + starts[s + 2], sizeof list - starts[s + 2], SIDE, SIDE);
-        if (read.refusal != 0 || read.place != 0 || read.kind != lawful[s].kind
-            || read.size != starts[s + 3] - starts[s + 2]
-            || memcmp(read.numbers, lawful[s].numbers, sizeof read.numbers) != 0) {
-            wrong = true;
-            printf("shape %zu was not read back\n", s);
-        }
+/* The reader answers the record that was written. */
+static void expect_read(size_t record, uint32_t kind, const int32_t numbers[6]) {
+    const uint8_t *bytes = list + starts[record];
+    struct greystroke_read_answer read =
+        greystroke_read_record(bytes, sizeof list - starts[record], basis_2);
+    if (read.refusal != 0 || read.place != 0 || read.kind != kind
+        || read.size != starts[record + 1] - starts[record]
+        || memcmp(read.numbers, numbers, sizeof read.numbers) != 0) {
+        wrong = true;
+        printf("record %zu was not read back\n", record);
     }
-    if (greystroke_draw_list(page, sizeof page, list, starts[records - 1]).refusal != 0) {
+}
+
+/* What is lawful is taken. */
+static void try_lawful(void) {
+    static const int32_t player[6] = {PLAYER};
+    size_t length = starts[records - 1];
+    expect_read(PLAYER_RECORD, GREYSTROKE_KIND_PLAYER, player);
+    for (size_t s = 0; s < COUNT(lawful); s++)
+        expect_read(FIRST_SHAPE + s, lawful[s].kind, lawful[s].numbers);
+    struct greystroke_check_answer checked = greystroke_check_list(list, length, sizeof page);
+    struct greystroke_list_answer drawn =
+        greystroke_draw_list(page, sizeof page, list, length);
+    if (checked.refusal != 0 || !same(checked.basis, basis_2) || checked.background != 9
+        || drawn.refusal != 0 || drawn.w != SIDE || drawn.h != SIDE) {
         wrong = true;
         printf("the list was not drawn\n");
     }
+    expect_touches(drawn, PLAYER);
 }
 
 int main(void) {
@@ -303,8 +393,11 @@ int main(void) {
     try_shapes();
     try_pixels();
     try_pages();
+    try_versions();
+    try_players();
     try_places();
-    try_lists();
+    try_lengths();
+    try_bytes();
     try_records();
     try_lawful();
     printf("misuse: %lu calls refused\n", calls);

@@ -1,10 +1,11 @@
-/* Writes a list of one disc, draws it, and sums the light left in the page's upper left quarter. */
+/* Writes a list of one disc of a player, draws it, tells how many pixels the player touched, and
+ * sums the light left in the page's upper left quarter. */
 #include "greystroke.h"
 
 #include <inttypes.h>
 #include <stdio.h>
 
-enum { WIDTH = 32, HEIGHT = 32, BACKGROUND = 255, LEVEL = 0, RADIUS = 12 };
+enum { WIDTH = 32, HEIGHT = 32, BACKGROUND = 255, PLAYER = 3, LEVEL = 0, RADIUS = 12 };
 
 static uint8_t list[64];
 static uint8_t page[WIDTH * HEIGHT];
@@ -12,14 +13,18 @@ static uint8_t page[WIDTH * HEIGHT];
 /* Hands back how many bytes were written, or 0 after a refusal. */
 static size_t write_list(void) {
     struct greystroke_shape disc = greystroke_disc(WIDTH / 2, HEIGHT / 2, RADIUS);
+    struct greystroke_basis none = {0, 0, 0};
+    struct greystroke_basis basis = {GREYSTROKE_LIST_VERSION, WIDTH, HEIGHT};
     struct greystroke_write_answer at =
-        greystroke_write_header(list, sizeof list, 0, 0, 0, WIDTH, HEIGHT, BACKGROUND);
+        greystroke_write_header(list, sizeof list, 0, none, basis, BACKGROUND);
     if (at.refusal == 0)
-        at = greystroke_write_level(list, sizeof list, at.next, at.w, at.h, LEVEL);
+        at = greystroke_write_player(list, sizeof list, at.next, at.basis, PLAYER);
     if (at.refusal == 0)
-        at = greystroke_write_shape(list, sizeof list, at.next, at.w, at.h, disc);
+        at = greystroke_write_level(list, sizeof list, at.next, at.basis, LEVEL);
     if (at.refusal == 0)
-        at = greystroke_write_end(list, sizeof list, at.next, at.w, at.h);
+        at = greystroke_write_shape(list, sizeof list, at.next, at.basis, disc);
+    if (at.refusal == 0)
+        at = greystroke_write_end(list, sizeof list, at.next, at.basis);
     return at.refusal == 0 ? at.next : 0;
 }
 
@@ -38,7 +43,7 @@ int main(void) {
         printf("refused %" PRIu32 " at %zu\n", drawn.refusal, drawn.place);
         return 1;
     }
-    printf("touched %" PRIu64 "\n", drawn.touched);
+    printf("player %d touched %" PRIu64 "\n", PLAYER, drawn.touched[PLAYER]);
     printf("light %" PRIu64 "\n", light(0, 0, WIDTH / 2, HEIGHT / 2));
     printf("light %" PRIu64 "\n", light(0, 0, WIDTH, HEIGHT));
     return 0;

@@ -30,15 +30,16 @@ extern "C" {
 #endif
 
 /* The version of this interface: it grows where a program must be changed to be linked again. */
-#define GREYSTROKE_VERSION 1
+#define GREYSTROKE_VERSION 2
 
 /* ---- refusals (R8.1) ---- */
 
 enum greystroke_refusal {
     GREYSTROKE_WRONG_MARK = 1,      /* a list without the letters INK */
-    GREYSTROKE_WRONG_VERSION = 2,   /* a list of a version other than 1 */
+    GREYSTROKE_WRONG_VERSION = 2,   /* a version of a list other than 1 or 2 */
     GREYSTROKE_PAGE_SIZE = 3,       /* W or H outside 1 to 1,024 */
-    GREYSTROKE_UNKNOWN_KIND = 4,    /* an unknown kind of record, or a kind that is no shape */
+    GREYSTROKE_UNKNOWN_KIND = 4,    /* a kind of record that the version does not have, or a kind
+                                       that is no shape */
     GREYSTROKE_CUT_SHORT = 5,       /* a header or a record cut short, or no end record */
     GREYSTROKE_SURPLUS_BYTES = 6,   /* bytes behind the end record */
     GREYSTROKE_COORDINATE = 7,      /* a coordinate outside -4,096 to 4,095 */
@@ -48,8 +49,9 @@ enum greystroke_refusal {
     GREYSTROKE_RING_WIDTH = 11,     /* a ring's width outside 1 to the radius */
     GREYSTROKE_LIST_TOO_LONG = 12,  /* a list of more than 65,536 bytes */
     GREYSTROKE_PAGE_TOO_SHORT = 21, /* a page shorter than W * H bytes */
-    GREYSTROKE_NO_ROOM = 22         /* too few bytes left in a list being written, or a place of a
+    GREYSTROKE_NO_ROOM = 22,        /* too few bytes left in a list being written, or a place of a
                                        record under 10 or past the list */
+    GREYSTROKE_PLAYER = 31          /* a player above 7 */
 };
 
 /* ---- shapes and clips ---- */
@@ -62,7 +64,8 @@ enum greystroke_kind {
     GREYSTROKE_KIND_EXACT_LINE = 3,
     GREYSTROKE_KIND_APPROXIMATE_LINE = 4,
     GREYSTROKE_KIND_DISC = 5,
-    GREYSTROKE_KIND_RING = 6
+    GREYSTROKE_KIND_RING = 6,
+    GREYSTROKE_KIND_PLAYER = 7 /* a setting of version 2 */
 };
 
 /* A shape: its kind, and its numbers in the order of the record's fields. Numbers past those that
@@ -139,29 +142,41 @@ struct greystroke_coverage_answer greystroke_coverage(
 
 /* ---- a whole list (R7) ---- */
 
-/* W, H and the touched count: the sum, over the shapes, of the pixels that each touches (R6.4). */
+/* The version of list to write. Lists of version 1, which have no player, are read and written as
+ * well (R7.2, R7.3). */
+#define GREYSTROKE_LIST_VERSION 2
+
+/* What the records of a list are read and written against: its version, and the W and H of its
+ * page. */
+struct greystroke_basis {
+    uint32_t version;
+    uint32_t w;
+    uint32_t h;
+};
+
+/* W, H and eight touched counts: touched[p] is the sum, over the shapes of player p, of the pixels
+ * that each touches (R6.4). The eight add up to the touches of all shapes. */
 struct greystroke_list_answer {
     uint32_t refusal;
     size_t place;
     uint32_t w;
     uint32_t h;
-    uint64_t touched;
+    uint64_t touched[8];
 };
 
 /* Draws a list on a page (R7.5). The whole list is checked before a byte of the page is written.
  * Refused, in this order: 12, 5 (under 10 bytes), 1, 2, 3, 21, then record by record 4, 5 and
- * those of 7 to 11 that the kind has, last 6 (R8.2). The place is 0 for the header, 12 and 21;
- * else the record's first byte; the list's length where the end is missing; the first surplus byte
- * for 6. */
+ * those of 7 to 11 and 31 that the kind has, last 6 (R8.2). The place is 0 for the header, 12 and
+ * 21; else the record's first byte; the list's length where the end is missing; the first surplus
+ * byte for 6. */
 struct greystroke_list_answer greystroke_draw_list(
     uint8_t *page, size_t page_length, const uint8_t *list, size_t list_length);
 
-/* W, H and the background of the list. */
+/* What the list's header says: its version, W and H, and its background. */
 struct greystroke_check_answer {
     uint32_t refusal;
     size_t place;
-    uint32_t w;
-    uint32_t h;
+    struct greystroke_basis basis;
     uint8_t background;
 };
 
@@ -173,7 +188,7 @@ struct greystroke_check_answer greystroke_check_list(
 /* ---- one record read ---- */
 
 /* The record has `size` bytes. `kind` is its kind, and `numbers` are its fields in their order,
- * then zeros: those of a shape are as in greystroke_shape. */
+ * then zeros: those of a shape are as in greystroke_shape, a player is numbers[0]. */
 struct greystroke_read_answer {
     uint32_t refusal;
     size_t place;
@@ -182,50 +197,57 @@ struct greystroke_read_answer {
     int32_t numbers[6];
 };
 
-/* Reads the record at the front of some bytes, for a page of w by h (R7.6).
- * Refused, in this order: 3, 5 (no byte), 4, 5, then those of 7 to 11 that the kind has (R8.5). */
+/* Reads the record at the front of some bytes, by the version, W and H of its list (R7.6).
+ * Refused, in this order: 2, 3, 5 (no byte), 4, 5, then those of 7 to 11 and 31 that the kind has
+ * (R8.5). */
 struct greystroke_read_answer greystroke_read_record(
-    const uint8_t *list, size_t list_length, uint32_t w, uint32_t h);
+    const uint8_t *list, size_t list_length, struct greystroke_basis basis);
 
 /* ---- a list being written (R7.7) ----
- * A writer is a place, W and H, which the caller holds: 0, 0, 0 before the header. Each call is
+ * A writer is a place and a basis, which the caller holds: zeros before the header. Each call is
  * handed them and answers those to hold from then on; after a refusal they are the ones that it
  * was handed. Of a list only the first 65,536 bytes serve, and no byte changes but those of what
  * is written. */
 
-/* `next` is where the next record goes; `place` is that of the refusal, always 0. */
+/* `next` is where the next record goes, and `basis` what it is written against; `place` is that of
+ * the refusal, always 0. */
 struct greystroke_write_answer {
     uint32_t refusal;
     size_t place;
     size_t next;
-    uint32_t w;
-    uint32_t h;
+    struct greystroke_basis basis;
 };
 
-/* Writes a header for a page of width by height to byte 0; place, w and h are what the writer
- * holds. Refused, in this order: 3 of width and height, 22 (R8.6). */
+/* Writes a header of the version, W and H of `basis` to byte 0; place and `held` are what the
+ * writer holds. Refused, in this order: 2 and 3 of `basis`, 22 (R8.6). */
 struct greystroke_write_answer greystroke_write_header(
-    uint8_t *list, size_t list_length, size_t place, uint32_t w, uint32_t h,
-    uint32_t width, uint32_t height, uint8_t background);
+    uint8_t *list, size_t list_length, size_t place, struct greystroke_basis held,
+    struct greystroke_basis basis, uint8_t background);
 
 /* Writes an end record, which the writer does not remember.
- * Refused, in this order: 3 of w and h, 22 (R8.6). */
+ * Refused, in this order: 2, 3, 22 (R8.6). */
 struct greystroke_write_answer greystroke_write_end(
-    uint8_t *list, size_t list_length, size_t place, uint32_t w, uint32_t h);
+    uint8_t *list, size_t list_length, size_t place, struct greystroke_basis basis);
 
-/* Writes a clip. Refused, in this order: 3 of w and h, 8, 22 (R8.6). */
+/* Writes a clip. Refused, in this order: 2, 3, 8, 22 (R8.6). */
 struct greystroke_write_answer greystroke_write_clip(
-    uint8_t *list, size_t list_length, size_t place, uint32_t w, uint32_t h,
+    uint8_t *list, size_t list_length, size_t place, struct greystroke_basis basis,
     struct greystroke_clip clip);
 
-/* Writes a level. Refused, in this order: 3 of w and h, 22 (R8.6). */
+/* Writes a level. Refused, in this order: 2, 3, 22 (R8.6). */
 struct greystroke_write_answer greystroke_write_level(
-    uint8_t *list, size_t list_length, size_t place, uint32_t w, uint32_t h, uint8_t level);
+    uint8_t *list, size_t list_length, size_t place, struct greystroke_basis basis, uint8_t level);
 
-/* Writes a shape. Refused, in this order: 4 where the kind is no shape, then 3 of w and h, 7, 9,
- * 10, 11, 22 (R8.6). */
+/* Writes a player, who owns the shapes behind it (R7.4).
+ * Refused, in this order: 2, 3, 4 in version 1, 31, 22 (R8.6). */
+struct greystroke_write_answer greystroke_write_player(
+    uint8_t *list, size_t list_length, size_t place, struct greystroke_basis basis,
+    uint8_t player);
+
+/* Writes a shape. Refused, in this order: 4 where the kind is no shape, then 2, 3, 7, 9, 10, 11, 22
+ * (R8.6). */
 struct greystroke_write_answer greystroke_write_shape(
-    uint8_t *list, size_t list_length, size_t place, uint32_t w, uint32_t h,
+    uint8_t *list, size_t list_length, size_t place, struct greystroke_basis basis,
     struct greystroke_shape shape);
 
 #ifdef __cplusplus

@@ -52,13 +52,13 @@ page-whole w h b ds l m room e =
 
 -- ---- the bound
 
-touches-sound : (ds : List Drawing) (x y : ℕ) → AllLawful ds → AllSound (touchesAt ds x y)
+touches-sound : (v : ℕ) (ds : List Drawing) (x y : ℕ) → AllLawful v ds → AllSound (touchesAt ds x y)
 unfolding AllLawful touchesAt
-touches-sound [] x y a = tt
-touches-sound (d ∷ ds) x y a = go (touched (d .settings .clip) (d .shape) x y) (touches-sound ds x y (a .2))
+touches-sound v [] x y a = tt
+touches-sound v (d ∷ ds) x y a = go (touched (d .settings .clip) (d .shape) x y) (touches-sound v ds x y (a .3))
   where
     go : (k : Bool) → AllSound (touchesAt ds x y) → AllSound (cond k (touchOf d x y ∷ touchesAt ds x y) (touchesAt ds x y))
-    go true s = ((a .0, sound (d .shape) (pos x) (pos y) (a .1)), s)
+    go true s = ((a .0, sound (d .shape) (pos x) (pos y) (a .2)), s)
     go false s = s
 
 -- a byte that sound touches leave is within their bound
@@ -79,8 +79,8 @@ byte-is w h b ds l x y room i j =
     getD-over _ l (y * w + x) (omega arith)
     ∙ rw (lt-ltb (y * w + x) (w * h) inside, column, line)
 
-pub all-bounded : (w h b : ℕ) (ds : List Drawing) (l : List ℕ) → w * h ≤ length l → b ≤ 255 → AllLawful ds
+pub all-bounded : (v w h b : ℕ) (ds : List Drawing) (l : List ℕ) → w * h ≤ length l → b ≤ 255 → AllLawful v ds
     → (x y : ℕ) → x < w → y < h → ByteBounded (getD (drawnPage w h b ds l) (y * w + x) 0) b (touchesAt ds x y)
-all-bounded w h b ds l room v a x y i j =
+all-bounded v w h b ds l room k a x y i j =
     subst (λ (u : ℕ). ByteBounded u b (touchesAt ds x y)) (sym (byte-is w h b ds l x y room i j))
-    (byte-bounded b (touchesAt ds x y) v (touches-sound ds x y a))
+    (byte-bounded b (touchesAt ds x y) k (touches-sound v ds x y a))

@@ -1,10 +1,12 @@
 -- The claim about a list, refused and accepted.
 use mathlib.Core.Path.{_≡_, refl, sym, _∙_, ap, subst}
-use mathlib.Core.List.{List, _++_}
+use mathlib.Core.List.{List, [], _++_}
 use Prim.Native.Nat.{ℕ, _+_, _*_, _^_, _≤_, _<_}
 use native.Mathlib.Nat.{mul-le-mul}
 use native.Mathlib.Omega.{arith}
-use lib.ListN.{length, getD, take, drop, length-take}
+use lib.ListN.{length, getD, replicate, take, drop, length-take}
+use Rattle.numbers.specs.Sum.{total}
+use Rattle.shapes.proofs.Limits.{basis-size}
 use Rattle.lists.specs.Format.{headerAt, basisOf}
 use Rattle.lists.specs.List.{Records, accepted, refused, pageRecords, checkedAs, checkedOf}
 use Rattle.lists.specs.Drawing.{Drawing, drawings}
@@ -17,23 +19,31 @@ use Rattle.lists.proofs.Walkable.{found, room, list-walkable, drawings-are}
 use Rattle.draw.proofs.Refusals.{view-lawful}
 use Rattle.drawing.specs.Touches.{touchesAt}
 use Rattle.drawing.specs.Page.{drawnPage}
-use Rattle.drawing.specs.Claim.{answerBy, pageBy, ByteBounded, Bounded, ClaimBy, Claim}
-use Rattle.drawing.specs.inner.Walk.{Drawable, ListPainted}
+use Rattle.drawing.specs.Counts.{shapesCount, ownOf, playerCounts}
+use Rattle.drawing.specs.Claim.{answerBy, drawingsBy, pageBy, ByteBounded, Bounded, ClaimBy, Claim, outcomeBy}
+use Rattle.drawing.specs.inner.Walk.{AllLawful, Drawable, ListPainted}
 use Rattle.drawing.specs.declared.Answer.the-variants.{Drawn, Refused as refusedAt}
-use Rattle.drawing.proofs.Shapes.{counts-same}
+use Rattle.drawing.specs.declared.Outcome.{Outcome}
+use Rattle.drawing.proofs.Players.{counted}
 use Rattle.drawing.proofs.Bytes.{page-whole, all-bounded}
 
+-- no drawings, no counts
+none-counted : (w h : ℕ) → replicate 8 0 ≡ playerCounts (shapesCount w h) []
+unfolding ownOf total
+none-counted w h = refl
+
 -- a list that the check refuses
-pub refused-claim : (s l : List ℕ) (f place : ℕ) → Refused f place ≡ checkedOf s (length l) → Claim s l (refusedAt f place) l
-unfolding answerBy pageBy Bounded
+pub refused-claim : (s l : List ℕ) (f place : ℕ) → Refused f place ≡ checkedOf s (length l) → Claim s l (record { answer = refusedAt f place; touched = replicate 8 0 }) l
+unfolding answerBy drawingsBy pageBy Bounded AllLawful
 refused-claim s l f place e = go (pageRecords s (length l)) e
   where
-    go : (x : Records) → Refused f place ≡ checkedAs (headerAt s) x → ClaimBy (headerAt s) x l (refusedAt f place) l
+    go : (x : Records) → Refused f place ≡ checkedAs (headerAt s) x → ClaimBy (headerAt s) x l (record { answer = refusedAt f place; touched = replicate 8 0 }) l
     go (accepted rs) k = absurd (let z : _≡_ {A = ℕ} 0 1 = cc in omega arith)
     go (refused g q) k =
         let a : f ≡ g = cc in
         let b : place ≡ q = cc in
-        record { answer = rw (a, b); page = refl; bound = tt; count = rw (a, b) }
+        let d = headerAt s in
+        record { answer = rw (a, b); page = refl; bound = tt; counts = counted (d .version) (d .w) (d .h) [] (replicate 8 0) tt (none-counted (d .w) (d .h)) }
 
 -- one that it accepts with the header d
 module _ (s l : List ℕ) (d : Header) (e : Accepted d ≡ checkedOf s (length l)) where
@@ -56,7 +66,7 @@ module _ (s l : List ℕ) (d : Header) (e : Accepted d ≡ checkedOf s (length l
   pub few : d .w * d .h < 2 ^ 64
   few =
       let drawable = lent-drawable in
-      let law = view-lawful (d .w) (d .h) _ (start (basisOf d) .clip) (drawable .walk .page) (drawable .room) (start-clip (basisOf d)) in
+      let law = view-lawful (d .w) (d .h) _ (start (basisOf d) .clip) (basis-size (basisOf d) (drawable .walk .basis)) (drawable .room) (start-clip (basisOf d)) in
       omega (arith, mul-le-mul {n₁ = d .w} {m₁ = d .h} {n₂ = 1024} {m₂ = 1024} (law .w-most) (law .h-most))
 
   abbrev ds : List Drawing
@@ -66,10 +76,13 @@ module _ (s l : List ℕ) (d : Header) (e : Accepted d ≡ checkedOf s (length l
   same : listDrawings (basisOf d) s ≡ ds
   same = drawings-are (found s (length l) d e)
 
-  -- it left p of what was lent, and touched t pixels
-  module _ {p : List ℕ} {t : ℕ} (done : ListPainted (basisOf d) (d .background) (listDrawings (basisOf d) s) lent p t) where
-    painted : ListPainted (basisOf d) (d .background) ds lent p t
-    painted = subst (λ (q : List Drawing). ListPainted (basisOf d) (d .background) q lent p t) same done
+  -- it left p of what was lent, and touched ts pixels by player
+  module _ {p ts : List ℕ} (done : ListPainted (basisOf d) (d .background) (listDrawings (basisOf d) s) lent p ts) where
+    painted : ListPainted (basisOf d) (d .background) ds lent p ts
+    painted = subst (λ (q : List Drawing). ListPainted (basisOf d) (d .background) q lent p ts) same done
+
+    abbrev outcome : Outcome
+    outcome = record { answer = Drawn (d .w) (d .h); touched = ts }
 
     abbrev whole : List ℕ
     whole = p ++ drop (d .w * d .h) l
@@ -80,19 +93,23 @@ module _ (s l : List ℕ) (d : Header) (e : Accepted d ≡ checkedOf s (length l
     bounded : (x y : ℕ) → x < d .w → y < d .h → ByteBounded (getD whole (y * d .w + x) 0) (d .background) (touchesAt ds x y)
     bounded x y i j =
         subst (λ (m : List ℕ). ByteBounded (getD m (y * d .w + x) 0) (d .background) (touchesAt ds x y)) (sym page-is)
-        (all-bounded (d .w) (d .h) (d .background) ds l fits (painted .byte) (painted .lawful) x y i j)
+        (all-bounded (d .version) (d .w) (d .h) (d .background) ds l fits (painted .byte) (painted .lawful) x y i j)
 
-    records-claim : ClaimBy d (accepted (found s (length l) d e .records)) l (Drawn (d .w) (d .h) t) whole
-    unfolding answerBy pageBy Bounded
+    records-claim : ClaimBy d (accepted (found s (length l) d e .records)) l outcome whole
+    unfolding answerBy drawingsBy pageBy Bounded
     records-claim =
         record {
-          answer = ap (Drawn (d .w) (d .h)) (painted .count);
+          answer = refl;
           page = page-is;
           bound = bounded;
-          count = ap (Drawn (d .w) (d .h)) (painted .count ∙ counts-same (d .w) (d .h) ds);
+          counts = counted (d .version) (d .w) (d .h) ds ts (painted .lawful) (painted .counts);
         }
 
-    pub accepted-claim : Claim s l (Drawn (d .w) (d .h) t) whole
+    pub accepted-claim : Claim s l outcome whole
     accepted-claim =
-        subst (λ (q : Header). ClaimBy q (pageRecords s (length l)) l (Drawn (d .w) (d .h) t) whole) (found s (length l) d e .header)
-        (subst (λ (x : Records). ClaimBy d x l (Drawn (d .w) (d .h) t) whole) (sym (found s (length l) d e .is)) records-claim)
+        subst (λ (q : Header). ClaimBy q (pageRecords s (length l)) l outcome whole) (found s (length l) d e .header)
+        (subst (λ (x : Records). ClaimBy d x l outcome whole) (sym (found s (length l) d e .is)) records-claim)
+
+-- what comes of a list is its answer and its counts
+pub claimed-outcome : {d : Header} {x : Records} {l m : List ℕ} {r : Outcome} → ClaimBy d x l r m → r ≡ outcomeBy d x
+claimed-outcome c = λ i. record { answer = c .answer i; touched = c .counts .shapes i }

@@ -1,5 +1,6 @@
 -- Proofs about a whole list on a page.
 pub mod Shapes
+pub mod Players
 pub mod Records
 pub mod Bytes
 pub mod Claim

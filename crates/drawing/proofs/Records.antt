@@ -1,18 +1,22 @@
 -- The records of a list, drawn one after the other.
 use mathlib.Core.Path.{_≡_, refl, sym, _∙_, ap, subst}
+use mathlib.Core.Bool.{Bool, true, false, cond}
 use mathlib.Core.List.{List, _++_}
-use Prim.Native.Nat.{ℕ, _+_, _*_, _-_, _≤_}
+use Prim.Native.Nat.{ℕ, _+_, _*_, _-_, _≤_, _<_}
 use native.Mathlib.Omega.{arith}
-use lib.ListN.{length, getD, take, drop}
+use lib.Dec.{eqb}
+use lib.ListN.{length, getD, set, replicate, take, drop, length-set}
 use Rattle.numbers.specs.Sum.{total}
 use Rattle.numbers.proofs.Sum.{total-++}
-use Rattle.shapes.specs.Limits.{shapeRefusal, recordRefusal}
+use Rattle.shapes.specs.Limits.{sizeRefusal, shapeRefusal, recordRefusal}
+use Rattle.shapes.proofs.Limits.{basis-size}
 use Rattle.shapes.specs.declared.Shape.{Shape}
-use Rattle.shapes.specs.declared.Setting.the-variants.{Clip as clip, Level as level}
+use Rattle.shapes.specs.declared.Setting.the-variants.{Clip as clip, Level as level, Player as player}
 use Rattle.shapes.specs.declared.Basis.{Basis}
 use Rattle.shapes.specs.declared.Record.{Record}
 use Rattle.shapes.specs.declared.Record.the-variants.{End as end, Setting as setting, Shape as shape}
 use Rattle.coverage.specs.Coverage.{drawnD}
+use Rattle.coverage.proofs.Height.{zeros}
 use Rattle.page.specs.inner.Ink.{inkOf}
 use Rattle.page.specs.inner.Paint.{Lawful, DrawnIn}
 use Rattle.page.proofs.Drawn.{drawn-count}
@@ -23,12 +27,13 @@ use Rattle.draw.proofs.Refusals.{view-lawful}
 use Rattle.draw.proofs.Touches.{page-touched, count-touched}
 use Rattle.lists.specs.Drawing.{Drawing, drawingOf, drawingsFrom}
 use Rattle.lists.specs.Settings.{start, inForce}
-use Rattle.drawing.specs.Counts.{drawingCount, shapesCount}
-use Rattle.drawing.specs.inner.Walk.{shapesPage, Drawable, AllLawful, ShapesDrawn}
-use Rattle.lists.specs.inner.Walk.{recordsIn, listRecords, listDrawings}
+use Rattle.drawing.specs.Counts.{drawingCount, shapesCount, ownOf, playerCounts}
+use Rattle.drawing.specs.inner.Walk.{shapesPage, Drawable, AllLawful, ShapesDrawn, ListDrawn}
+use Rattle.lists.specs.inner.Walk.{recordsIn, listRecords, listDrawings, playersIn}
 use Rattle.lists.specs.declared.settings.Settings.{Settings}
 use Rattle.drawing.proofs.Shapes.{page-then, length-shapes}
-use Rattle.lists.proofs.Left.{Left, left-start, left-page, left-inside, left-end, left-lawful, Step, left-next}
+use Rattle.drawing.proofs.Players.{players-most, players-are, raised, own-++, own-record}
+use Rattle.lists.proofs.Left.{Left, left-start, left-basis, left-inside, left-end, left-lawful, Step, left-next}
 
 -- ---- one record
 
@@ -41,62 +46,73 @@ shape-drawn {b} f s {l} law z d =
     let k = d .count in
     (record { page = d .page ∙ page-touched (b .w) (b .h) (f .clip) (f .level) s z l; count = omega arith }, drawn-count law d)
 
--- a record without a refusal, drawn at a level that is a byte, in front of lawful drawings
+-- a record without a refusal, drawn at a level that is a byte for a player of the version, in front of lawful drawings
 pub lawful-then : (b : Basis) (f : Settings) (r : Record) (ds : List Drawing) → recordRefusal b r ≡ 0 → f .level ≤ 255
-    → AllLawful ds
-    → AllLawful (drawingOf f r ++ ds)
+    → f .player < playersIn (b .version) → AllLawful (b .version) ds
+    → AllLawful (b .version) (drawingOf f r ++ ds)
 unfolding recordRefusal drawingOf AllLawful
-lawful-then b f end ds z k a = a
-lawful-then b f (setting (clip c)) ds z k a = a
-lawful-then b f (setting (level v)) ds z k a = a
-lawful-then b f (shape s) ds z k a = (k, z, a)
+lawful-then b f end ds z k i a = a
+lawful-then b f (setting g) ds z k i a = a
+lawful-then b f (shape s) ds z k i a = (k, i, z, a)
 
 -- ---- the walk
 
--- at a place, with the settings f, the page l and the count t: what is left makes goal and sum of them
-pub record Remaining (b : Basis) (list : List ℕ) (all : List Drawing) (goal : List ℕ) (sum place : ℕ) (f : Settings) (l : List ℕ) (t : ℕ) : Type 0 where
+-- at a place, with the settings f, the page l and the counts ts: what is left makes of them the page goal and the counts of all
+pub record Remaining (b : Basis) (list : List ℕ) (all : List Drawing) (goal : List ℕ) (place : ℕ) (f : Settings) (l ts : List ℕ) : Type 0 where
   pub records : List Record
   pub left : Left b list place f records
   pub page : goal ≡ shapesPage (b .w) (drawingsFrom f records) l
-  pub count : sum ≡ t + shapesCount (b .w) (b .h) (drawingsFrom f records)
-  pub lawful : AllLawful (drawingsFrom f records) → AllLawful all
+  pub counts : (p : ℕ) → shapesCount (b .w) (b .h) (ownOf p all) ≡ getD ts p 0 + shapesCount (b .w) (b .h) (ownOf p (drawingsFrom f records))
+  pub lawful : AllLawful (b .version) (drawingsFrom f records) → AllLawful (b .version) all
   pub room : b .w * b .h ≤ length l
-  pub few : t ≤ 1048576 * place
+  pub eight : length ts ≡ 8
+  pub few : (p : ℕ) → getD ts p 0 ≤ 1048576 * place
 
 -- the whole list on the page l
-abbrev pub RemainingOf : Basis → List ℕ → List ℕ → ℕ → Settings → List ℕ → ℕ → Type 0
-RemainingOf b list l =
-    Remaining b list (listDrawings b list) (shapesPage (b .w) (listDrawings b list) l) (shapesCount (b .w) (b .h) (listDrawings b list))
+abbrev pub RemainingOf : Basis → List ℕ → List ℕ → ℕ → Settings → List ℕ → List ℕ → Type 0
+RemainingOf b list l = Remaining b list (listDrawings b list) (shapesPage (b .w) (listDrawings b list) l)
 
-pub remaining-start : (b : Basis) (list l : List ℕ) → Drawable list b (length l) → RemainingOf b list l headerSize (start b) l 0
+pub remaining-start : (b : Basis) (list l : List ℕ) → Drawable list b (length l) → RemainingOf b list l headerSize (start b) l (replicate 8 0)
 remaining-start b list l d =
     record {
       records = recordsIn (listRecords b list);
       left = left-start b list (d .walk);
       page = refl;
-      count = omega arith;
+      counts = λ p. omega (arith, zeros 8 p);
       lawful = λ a. a;
       room = d .room;
-      few = omega arith;
+      eight = refl;
+      few = λ p. omega (arith, zeros 8 p);
     }
 
-module _ {b : Basis} {sum place t : ℕ} {list goal l : List ℕ} {all : List Drawing} {f : Settings} (p : Remaining b list all goal sum place f l t) where
+module _ {b : Basis} {place : ℕ} {list goal l ts : List ℕ} {all : List Drawing} {f : Settings} (p : Remaining b list all goal place f l ts) where
+  -- the player in force has a count
+  pub player-below : f .player < 8
+  player-below = omega (arith, p .left .player, players-most (b .version))
+
+  player-inside : f .player < length ts
+  player-inside = omega (arith, p .eight, player-below)
+
   -- the end record: all is drawn
-  pub remaining-end : getD list place 0 ≡ 0 → (l ≡ goal) × (t ≡ sum) × AllLawful all
-  unfolding AllLawful drawingsFrom drawingOf shapesPage total
+  pub remaining-end : getD list place 0 ≡ 0 → (l ≡ goal) × (ts ≡ playerCounts (shapesCount (b .w) (b .h)) all) × AllLawful (b .version) all
+  unfolding AllLawful drawingsFrom drawingOf shapesPage total ownOf
   remaining-end z =
       let e = left-end (p .left) z in
       let page : goal ≡ l = p .page ∙ ap (λ (rs : List Record). shapesPage (b .w) (drawingsFrom f rs) l) e in
-      let count : sum ≡ t + 0 = p .count ∙ ap (λ (rs : List Record). t + shapesCount (b .w) (b .h) (drawingsFrom f rs)) e in
-      (sym page, omega arith, p .lawful (subst (λ (rs : List Record). AllLawful (drawingsFrom f rs)) (sym e) tt))
+      let count : (q : ℕ) → shapesCount (b .w) (b .h) (ownOf q all) ≡ getD ts q 0 + 0
+      = λ q. p .counts q ∙ ap (λ (rs : List Record). getD ts q 0 + shapesCount (b .w) (b .h) (ownOf q (drawingsFrom f rs))) e in (
+        sym page,
+        players-are (λ q. shapesCount (b .w) (b .h) (ownOf q all)) ts (p .eight) (λ q. omega (arith, count q)),
+        p .lawful (subst (λ (rs : List Record). AllLawful (b .version) (drawingsFrom f rs)) (sym e) tt),
+      )
 
   module _ {r : Record} (found : r ≡ recordAt (take (length list - place) (drop place list))) where
     pub lawful-record : Lawful (viewOf (b .w) (b .h) (f .clip)) (length l) × (recordRefusal b r ≡ 0)
-    lawful-record = (view-lawful (b .w) (b .h) (length l) (f .clip) (left-page (p .left)) (p .room) (p .left .clip), left-lawful (p .left) found)
+    lawful-record = (view-lawful (b .w) (b .h) (length l) (f .clip) (basis-size b (left-basis (p .left))) (p .room) (p .left .clip), left-lawful (p .left) found)
 
     -- it is no end: it is drawn, and the rest is left
     module _ (some : getD list place 0 ≡ 0 → ⊥) {m : List ℕ} {k after : ℕ} {g : Settings}
-        (drawn : ShapesDrawn b (drawingOf f r) l m k × (k ≤ 1048576) × (f .level ≤ 255))
+        (drawn : ShapesDrawn b (drawingOf f r) l m k) (most : k ≤ 1048576) (byte : f .level ≤ 255)
         (next : g ≡ inForce f r) (past : after ≡ place + kindSize (getD list place 0)) where
       abbrev then-left : Step (p .left) found some next past
       then-left = left-next (p .left) found some next past
@@ -104,36 +120,55 @@ module _ {b : Basis} {sum place t : ℕ} {list goal l : List ℕ} {all : List Dr
       abbrev rest : List Record
       rest = then-left .records-left
 
+      -- the counts with that of the player in force raised
+      abbrev more : List ℕ
+      more = set ts (f .player) (getD ts (f .player) 0 + k)
+
       page-left : goal ≡ shapesPage (b .w) (drawingsFrom g rest) m
       page-left =
           p .page
           ∙ ap (λ ds. shapesPage (b .w) ds l) (then-left .drawings)
           ∙ page-then (b .w) (drawingOf f r) (drawingsFrom g rest) l
-          ∙ ap (shapesPage (b .w) (drawingsFrom g rest)) (sym (drawn .0 .page))
+          ∙ ap (shapesPage (b .w) (drawingsFrom g rest)) (sym (drawn .page))
 
-      count-left : sum ≡ t + k + shapesCount (b .w) (b .h) (drawingsFrom g rest)
-      count-left =
-          let e = p .count ∙ ap (λ ds. t + shapesCount (b .w) (b .h) ds) (then-left .drawings) in
-          let j = total-++ (drawingCount (b .w) (b .h)) (drawingOf f r) (drawingsFrom g rest) in
-          let d = drawn .0 .count in
-          omega arith
+      -- a player's own drawings of what is left: those of the record, then the rest
+      own-then : (q : ℕ) → shapesCount (b .w) (b .h) (ownOf q (drawingsFrom f (p .records)))
+          ≡ cond (eqb (f .player) q) k 0 + shapesCount (b .w) (b .h) (ownOf q (drawingsFrom g rest))
+      own-then q =
+          let one = own-record (drawingCount (b .w) (b .h)) f r q ∙ ap (λ (n : ℕ). cond (eqb (f .player) q) n 0) (sym (drawn .count)) in
+          ap (λ ds. shapesCount (b .w) (b .h) (ownOf q ds)) (then-left .drawings)
+          ∙ ap (shapesCount (b .w) (b .h)) (own-++ q (drawingOf f r) (drawingsFrom g rest))
+          ∙ total-++ (drawingCount (b .w) (b .h)) (ownOf q (drawingOf f r)) (ownOf q (drawingsFrom g rest))
+          ∙ ap (λ (n : ℕ). n + shapesCount (b .w) (b .h) (ownOf q (drawingsFrom g rest))) one
 
-      lawful-left : AllLawful (drawingsFrom g rest) → AllLawful all
-      lawful-left a = p .lawful (subst AllLawful (sym (then-left .drawings)) (lawful-then b f r (drawingsFrom g rest) (left-lawful (p .left) found) (drawn .2) a))
+      counts-left : (q : ℕ) → shapesCount (b .w) (b .h) (ownOf q all) ≡ getD more q 0 + shapesCount (b .w) (b .h) (ownOf q (drawingsFrom g rest))
+      counts-left q = omega (arith, p .counts q, own-then q, raised ts (f .player) k q player-inside)
 
-      pub remaining-next : Remaining b list all goal sum after g m (t + k)
-      remaining-next =
+      lawful-left : AllLawful (b .version) (drawingsFrom g rest) → AllLawful (b .version) all
+      lawful-left a =
+          p .lawful (subst (AllLawful (b .version)) (sym (then-left .drawings)) (lawful-then b f r (drawingsFrom g rest) (left-lawful (p .left) found) byte (p .left .player) a))
+
+      few-left : (q : ℕ) → getD more q 0 ≤ 1048576 * after
+      few-left q =
           let i = left-inside (p .left) in
-          let d = drawn .1 in
-          let few = p .few in
+          let add : cond (eqb (f .player) q) k 0 ≤ 1048576 = at-most (eqb (f .player) q) in
+          omega (arith, p .few q, raised ts (f .player) k q player-inside)
+        where
+          at-most : (t : Bool) → cond t k 0 ≤ 1048576
+          at-most true = most
+          at-most false = omega arith
+
+      pub remaining-next : Remaining b list all goal after g m more
+      remaining-next =
           let room = p .room in
-          let same = ap length (drawn .0 .page) ∙ length-shapes (b .w) (drawingOf f r) l in
+          let same = ap length (drawn .page) ∙ length-shapes (b .w) (drawingOf f r) l in
           record {
             records = rest;
             left = then-left .left;
             page = page-left;
-            count = count-left;
+            counts = counts-left;
             lawful = lawful-left;
             room = omega arith;
-            few = omega arith;
+            eight = simp length-set (p .eight);
+            few = few-left;
           }

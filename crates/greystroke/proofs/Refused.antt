@@ -8,11 +8,11 @@ use borrow.Author.Tests.{lt-ltb, le-ltb, lt-leb, ltb-false}
 use lib.Dec.{ltb, leb}
 use lib.IntN.{ℤ, pos, negsuc}
 use Rattle.numbers.proofs.Order.{lt-or-le}
-use Rattle.shapes.specs.Limits.{first, offSize, outside, offRange, offPage, offRadius, refusalsOf, sizeRefusal, clipRefusal, shapeRefusal}
+use Rattle.shapes.specs.Limits.{first, offSize, outside, offRange, offPage, offRadius, refusalsOf, basisBy, sizeRefusal, basisRefusal, clipRefusal, shapeRefusal}
 use Rattle.shapes.specs.declared.Shape.{Shape}
 use Rattle.shapes.specs.declared.Shape.the-variants.{Line as line, Disc as disc, Ring as ring}
 use Rattle.shapes.proofs.Limits.{or-clear}
-use Rattle.greystroke.specs.Taken.{coordinateOf, sideOf, measureOf, edgeOf}
+use Rattle.greystroke.specs.Taken.{coordinateOf, unsignedOf, measureOf, edgeOf}
 
 -- 7: a coordinate
 pub coordinate-refused : (z : ℤ) → outside (coordinateOf z) ≡ outside z
@@ -22,37 +22,37 @@ coordinate-refused (pos n) =
 coordinate-refused (negsuc n) =
     ⊎-elim (λ h. rw (lt-ltb 32767 n h, lt-leb n 4095 (omega (arith, h)))) (λ h. rw (le-ltb 32767 n h)) (lt-or-le 32767 n)
 
-inside-same : (z : ℤ) → outside z ≡ false → coordinateOf z ≡ z
+inunsigned-same : (z : ℤ) → outside z ≡ false → coordinateOf z ≡ z
 unfolding coordinateOf
-inside-same (pos n) e = ⊎-elim far (λ h. rw (le-ltb 32767 n h)) (lt-or-le 32767 n)
+inunsigned-same (pos n) e = ⊎-elim far (λ h. rw (le-ltb 32767 n h)) (lt-or-le 32767 n)
   where
     far : 32767 < n → coordinateOf (pos n) ≡ pos n
     far h =
         let f = rw (lt-leb n 4095 (omega (arith, h))) at e in
         absurd (let q : _≡_ {A = ℕ} 0 1 = cc f in omega arith)
-inside-same (negsuc n) e = ⊎-elim far (λ h. rw (le-ltb 32767 n h)) (lt-or-le 32767 n)
+inunsigned-same (negsuc n) e = ⊎-elim far (λ h. rw (le-ltb 32767 n h)) (lt-or-le 32767 n)
   where
     far : 32767 < n → coordinateOf (negsuc n) ≡ negsuc n
     far h =
         let f = rw (lt-leb n 4095 (omega (arith, h))) at e in
         absurd (let q : _≡_ {A = ℕ} 0 1 = cc f in omega arith)
 
--- 3, 10, 11: W or H, a radius and a width, with the greatest that is lawful
-pub side-refused : (most n : ℕ) → most ≤ 65535 → (ltb (sideOf n) 1 || ltb most (sideOf n)) ≡ (ltb n 1 || ltb most n)
-unfolding sideOf
-side-refused most n k =
+-- 2, 3, 10, 11: a version, W or H, a radius and a width, with the greatest that is lawful
+pub unsigned-refused : (most n : ℕ) → most ≤ 65535 → (ltb (unsignedOf n) 1 || ltb most (unsignedOf n)) ≡ (ltb n 1 || ltb most n)
+unfolding unsignedOf
+unsigned-refused most n k =
     ⊎-elim
     (λ h. rw (lt-ltb 65535 n h, le-ltb n 1 (omega (arith, h)), lt-ltb most n (omega (arith, h))))
     (λ h. rw (le-ltb 65535 n h))
     (lt-or-le 65535 n)
 
-side-same : (n : ℕ) → n ≤ 65535 → sideOf n ≡ n
-unfolding sideOf
-side-same n h = rw (le-ltb 65535 n h)
+unsigned-same : (n : ℕ) → n ≤ 65535 → unsignedOf n ≡ n
+unfolding unsignedOf
+unsigned-same n h = rw (le-ltb 65535 n h)
 
 pub measure-refused : (most n : ℕ) → most ≤ 65535 → (ltb (measureOf (pos n)) 1 || ltb most (measureOf (pos n))) ≡ (ltb n 1 || ltb most n)
 unfolding measureOf
-measure-refused most n k = side-refused most n k
+measure-refused most n k = unsigned-refused most n k
 
 pub negative-refused : (most n : ℕ) → (ltb (measureOf (negsuc n)) 1 || ltb most (measureOf (negsuc n))) ≡ true
 unfolding measureOf
@@ -104,7 +104,7 @@ module _ (exact : Bool) (a b c d : ℤ) where
       let p = or-clear (outside a || outside b || outside c) (outside d) e in
       let q = or-clear (outside a || outside b) (outside c) (p .0) in
       let r = or-clear (outside a) (outside b) (q .0) in
-      rw (inside-same a (r .0), inside-same b (r .1), inside-same c (q .1), inside-same d (p .1)))
+      rw (inunsigned-same a (r .0), inunsigned-same b (r .1), inunsigned-same c (q .1), inunsigned-same d (p .1)))
 
 pub disc-refused : (x y : ℤ) (n : ℕ)
     → shapeRefusal (disc (record { x = coordinateOf x; y = coordinateOf y; radius = measureOf (pos n) }))
@@ -123,11 +123,11 @@ unfolding shapeRefusal offRange refusalsOf measureOf
 ring-refused x y n m =
     rw (coordinate-refused x, coordinate-refused y)
     (ap (λ (k : ℕ). cond (outside x || outside y) 7 k)
-    (told 10 (offRadius (sideOf n)) (offRadius n) (widthTold (sideOf n) (sideOf m)) (widthTold n m) (side-refused 255 n (omega arith)) (λ e.
+    (told 10 (offRadius (unsignedOf n)) (offRadius n) (widthTold (unsignedOf n) (unsignedOf m)) (widthTold n m) (unsigned-refused 255 n (omega arith)) (λ e.
     let h = ltb-false 255 n (or-clear (ltb n 1) (ltb 255 n) e .1) in
-    rw (side-same n (omega (arith, h)), side-refused n m (omega (arith, h))))))
+    rw (unsigned-same n (omega (arith, h)), unsigned-refused n m (omega (arith, h))))))
 
--- ---- sizes and clips
+-- ---- bases and clips
 
 or-assoc : (p a b : Bool) → (p || a || b) ≡ (p || (a || b))
 or-assoc true a b = refl
@@ -137,13 +137,17 @@ and-assoc : (p a b : Bool) → (p && a && b) ≡ (p && (a && b))
 and-assoc true a b = refl
 and-assoc false a b = refl
 
-pub size-refused : (w h : ℕ) → sizeRefusal (sideOf w) (sideOf h) ≡ sizeRefusal w h
+pub size-refused : (w h : ℕ) → sizeRefusal (unsignedOf w) (unsignedOf h) ≡ sizeRefusal w h
 unfolding sizeRefusal offSize
 size-refused w h =
     ap (λ (t : Bool). cond t 3 0)
-    (or-assoc (ltb (sideOf w) 1 || ltb 1024 (sideOf w)) (ltb (sideOf h) 1) (ltb 1024 (sideOf h))
-    ∙ ap₂ _||_ (side-refused 1024 w (omega arith)) (side-refused 1024 h (omega arith))
+    (or-assoc (ltb (unsignedOf w) 1 || ltb 1024 (unsignedOf w)) (ltb (unsignedOf h) 1) (ltb 1024 (unsignedOf h))
+    ∙ ap₂ _||_ (unsigned-refused 1024 w (omega arith)) (unsigned-refused 1024 h (omega arith))
     ∙ sym (or-assoc (ltb w 1 || ltb 1024 w) (ltb h 1) (ltb 1024 h)))
+
+pub basis-refused : (v w h : ℕ) → basisRefusal (basisBy (unsignedOf v) (unsignedOf w) (unsignedOf h)) ≡ basisRefusal (basisBy v w h)
+unfolding basisRefusal
+basis-refused v w h = rw (unsigned-refused 2 v (omega arith), size-refused w h)
 
 pub clip-refused : (w h x0 y0 x1 y1 : ℕ) → w ≤ 1024 → h ≤ 1024
     → clipRefusal w h (record { x0 = edgeOf x0; y0 = edgeOf y0; x1 = edgeOf x1; y1 = edgeOf y1 })

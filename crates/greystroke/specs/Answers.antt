@@ -8,7 +8,7 @@ use Rattle.coverage.specs.declared.Answer.the-variants.{Covered, Refused}
 use Rattle.draw.specs.Draw.{shapeOutcome, shapePage}
 use Rattle.draw.specs.declared.Outcome.{Outcome}
 use Rattle.draw.specs.declared.Outcome.the-variants.{Touched, Refused as DrawRefused}
-use Rattle.greystroke.specs.Taken.{coordinateOf, sideOf, clipOf}
+use Rattle.greystroke.specs.Taken.{coordinateOf, unsignedOf, clipOf}
 use Rattle.greystroke.specs.declared.taken.GivenClip.{GivenClip}
 use Rattle.greystroke.specs.declared.taken.Taken.{Taken}
 use Rattle.greystroke.specs.declared.taken.Taken.the-variants.{Known, Unknown}
@@ -38,9 +38,9 @@ coverageAsked Unknown x y = Refused unknownKind
 
 -- a shape drawn by the numbers of C on a page of so many bytes, and the page after it
 unfoldable pub shapeDrawn : ℕ → ℕ → ℕ → GivenClip → Taken → Outcome
-shapeDrawn w h size c (Known s) = shapeOutcome (sideOf w) (sideOf h) size (clipOf c) s
+shapeDrawn w h size c (Known s) = shapeOutcome (unsignedOf w) (unsignedOf h) size (clipOf c) s
 shapeDrawn w h size c Unknown = DrawRefused unknownKind
 
 unfoldable pub pageDrawn : ℕ → ℕ → GivenClip → ℕ → Taken → List ℕ → List ℕ
-pageDrawn w h c v (Known s) l = shapePage (sideOf w) (sideOf h) (clipOf c) v s l
+pageDrawn w h c v (Known s) l = shapePage (unsignedOf w) (unsignedOf h) (clipOf c) v s l
 pageDrawn w h c v Unknown l = l

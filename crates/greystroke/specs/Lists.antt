@@ -5,31 +5,27 @@ use Prim.Native.Nat.{ℕ}
 use lib.Dec.{ltb}
 use lib.IntN.{ℤ, pos}
 use lib.ListN.{length}
-use Rattle.shapes.specs.Limits.{sized}
-use Rattle.shapes.specs.declared.Basis.{Basis}
+use Rattle.shapes.specs.Limits.{basisBy}
 use Rattle.shapes.specs.declared.Shape.the-variants.{Line as line, Disc as disc, Ring as ring}
-use Rattle.shapes.specs.declared.Setting.the-variants.{Clip as clip, Level as level}
+use Rattle.shapes.specs.declared.Setting.the-variants.{Clip as clip, Level as level, Player as player}
 use Rattle.shapes.specs.declared.Record.{Record}
 use Rattle.shapes.specs.declared.Record.the-variants.{End as end, Setting as setting, Shape as shape}
-use Rattle.lists.specs.Format.{kindOf, recordBytes}
-use Rattle.lists.specs.Write.{headerWritten, recordWritten, recordList}
+use Rattle.lists.specs.Format.{basisOf, kindOf, recordBytes}
+use Rattle.lists.specs.Write.{heldBy, headerWritten, recordWritten, recordList}
 use Rattle.lists.specs.declared.read.Reading.{Reading}
 use Rattle.lists.specs.declared.read.Reading.the-variants.{Found, Refused}
 use Rattle.lists.specs.declared.check.Checked.{Checked}
 use Rattle.lists.specs.declared.check.Checked.the-variants.{Accepted, Refused as CheckRefused}
 use Rattle.lists.specs.declared.format.Header.{Header}
 use Rattle.lists.specs.declared.write.Written.{Written}
-use Rattle.greystroke.specs.Taken.{sideOf}
+use Rattle.greystroke.specs.Taken.{unsignedOf, basisTaken, basisGiven}
 use Rattle.greystroke.specs.Answers.{callPlace, unknownKind}
+use Rattle.greystroke.specs.declared.taken.GivenBasis.{GivenBasis}
 use Rattle.greystroke.specs.declared.taken.Taken.{Taken}
 use Rattle.greystroke.specs.declared.taken.Taken.the-variants.{Known, Unknown}
 use Rattle.greystroke.specs.declared.list.ReadAnswer.{ReadAnswer}
 use Rattle.greystroke.specs.declared.list.CheckAnswer.{CheckAnswer}
 use Rattle.greystroke.specs.declared.writing.WriteAnswer.{WriteAnswer}
-
--- W and H by the numbers of C
-abbrev pub basisTaken : ℕ → ℕ → Basis
-basisTaken w h = sized (sideOf w) (sideOf h)
 
 -- ---- reading
 
@@ -46,6 +42,7 @@ abbrev pub recordAnswer : Record → ReadAnswer
 recordAnswer end = numbered end (pos 0) (pos 0) (pos 0) (pos 0)
 recordAnswer (setting (clip c)) = numbered (setting (clip c)) (pos (c .x0)) (pos (c .y0)) (pos (c .x1)) (pos (c .y1))
 recordAnswer (setting (level v)) = numbered (setting (level v)) (pos v) (pos 0) (pos 0) (pos 0)
+recordAnswer (setting (player p)) = numbered (setting (player p)) (pos p) (pos 0) (pos 0) (pos 0)
 recordAnswer (shape (line l)) = numbered (shape (line l)) (l .x0) (l .y0) (l .x1) (l .y1)
 recordAnswer (shape (disc d)) = numbered (shape (disc d)) (d .x) (d .y) (pos (d .radius)) (pos 0)
 recordAnswer (shape (ring g)) = numbered (shape (ring g)) (g .x) (g .y) (pos (g .radius)) (pos (g .width))
@@ -58,34 +55,35 @@ readAnswer (Refused refusal) =
 -- ---- checking
 
 abbrev pub checkAnswer : Checked → CheckAnswer
-checkAnswer (Accepted d) = record { refusal = 0; place = 0; w = d .w; h = d .h; background = d .background }
-checkAnswer (CheckRefused refusal place) = record { refusal = refusal; place = place; w = 0; h = 0; background = 0 }
+checkAnswer (Accepted d) = record { refusal = 0; place = 0; basis = basisGiven (basisOf d); background = d .background }
+checkAnswer (CheckRefused refusal place) = record { refusal = refusal; place = place; basis = basisGiven (basisBy 0 0 0); background = 0 }
 
 -- ---- writing
 
--- next is where the next record goes. After a refusal it, W and H are those that were given
-unfoldable pub writeAnswer : ℕ → ℕ → Written → WriteAnswer
-writeAnswer w h a =
-    record { refusal = a .refusal; place = callPlace; next = a .place; w = cond (ltb 0 (a .refusal)) w (a .w); h = cond (ltb 0 (a .refusal)) h (a .h) }
+-- next is where the next record goes. After a refusal it and the basis are those that were given
+unfoldable pub writeAnswer : GivenBasis → Written → WriteAnswer
+writeAnswer b a =
+    record { refusal = a .refusal; place = callPlace; next = a .place; basis = cond (ltb 0 (a .refusal)) b (basisGiven (heldBy a)) }
 
--- a header by its three numbers
-abbrev pub headerOf : ℕ → ℕ → ℕ → Header
-headerOf w h background = record { w = sideOf w; h = sideOf h; background = background }
+-- a header by its version, W and H, and its background
+abbrev pub headerOf : GivenBasis → ℕ → Header
+headerOf b background =
+    record { version = unsignedOf (b .version); w = unsignedOf (b .w); h = unsignedOf (b .h); background = background }
 
--- a header, a record and a shape by the numbers of C, into the list l, and the list after it
-unfoldable pub headerPut : List ℕ → ℕ → ℕ → ℕ → Header → WriteAnswer
-headerPut l place w h d = writeAnswer w h (headerWritten l place (sideOf w) (sideOf h) d)
+-- a header, a record and a shape by the numbers of C, into the list l where the basis b is held, and the list after it
+unfoldable pub headerPut : List ℕ → ℕ → GivenBasis → Header → WriteAnswer
+headerPut l place b d = writeAnswer b (headerWritten l place (basisTaken b) d)
 
-unfoldable pub recordPut : List ℕ → ℕ → ℕ → ℕ → Record → WriteAnswer
-recordPut l place w h r = writeAnswer w h (recordWritten l place (sideOf w) (sideOf h) r)
+unfoldable pub recordPut : List ℕ → ℕ → GivenBasis → Record → WriteAnswer
+recordPut l place b r = writeAnswer b (recordWritten l place (basisTaken b) r)
 
-unfoldable pub afterRecord : List ℕ → ℕ → ℕ → ℕ → Record → List ℕ
-afterRecord l place w h r = recordList l place (sideOf w) (sideOf h) r
+unfoldable pub afterRecord : List ℕ → ℕ → GivenBasis → Record → List ℕ
+afterRecord l place b r = recordList l place (basisTaken b) r
 
-unfoldable pub shapePut : List ℕ → ℕ → ℕ → ℕ → Taken → WriteAnswer
-shapePut l place w h (Known s) = recordPut l place w h (shape s)
-shapePut l place w h Unknown = record { refusal = unknownKind; place = callPlace; next = place; w = w; h = h }
+unfoldable pub shapePut : List ℕ → ℕ → GivenBasis → Taken → WriteAnswer
+shapePut l place b (Known s) = recordPut l place b (shape s)
+shapePut l place b Unknown = record { refusal = unknownKind; place = callPlace; next = place; basis = b }
 
-unfoldable pub afterShape : List ℕ → ℕ → ℕ → ℕ → Taken → List ℕ
-afterShape l place w h (Known s) = afterRecord l place w h (shape s)
-afterShape l place w h Unknown = l
+unfoldable pub afterShape : List ℕ → ℕ → GivenBasis → Taken → List ℕ
+afterShape l place b (Known s) = afterRecord l place b (shape s)
+afterShape l place b Unknown = l

@@ -6,11 +6,14 @@ use lib.Dec.{ltb, eqb}
 use lib.IntN.{ℤ, pos, negsuc}
 use lib.ListN.{getD}
 use lib.Signed.{ltZ}
+use Rattle.shapes.specs.Limits.{basisBy}
+use Rattle.shapes.specs.declared.Basis.{Basis}
 use Rattle.shapes.specs.declared.Clip.{Clip}
 use Rattle.shapes.specs.declared.Line.{Line}
 use Rattle.shapes.specs.declared.Disc.{Disc}
 use Rattle.shapes.specs.declared.Ring.{Ring}
 use Rattle.shapes.specs.declared.Shape.the-variants.{Line as line, Disc as disc, Ring as ring}
+use Rattle.greystroke.specs.declared.taken.GivenBasis.{GivenBasis}
 use Rattle.greystroke.specs.declared.taken.GivenClip.{GivenClip}
 use Rattle.greystroke.specs.declared.taken.GivenShape.{GivenShape}
 use Rattle.greystroke.specs.declared.taken.Taken.{Taken}
@@ -20,18 +23,25 @@ use Rattle.greystroke.specs.declared.taken.Taken.the-variants.{Known, Un
 unfoldable pub coordinateOf : ℤ → ℤ
 coordinateOf z = cond (ltZ z (negsuc 32767) || ltZ (pos 32767) z) (pos 32767) z
 
--- W or H; 0 is refused by 3
-unfoldable pub sideOf : ℕ → ℕ
-sideOf n = cond (ltb 65535 n) 0 n
+-- an unsigned number: a version, W, H, a radius or a ring's width; 0 is refused by 2, 3, 10 and 11
+unfoldable pub unsignedOf : ℕ → ℕ
+unsignedOf n = cond (ltb 65535 n) 0 n
 
--- a radius or a ring's width; 0 is refused by 10 and by 11
+-- a radius or a ring's width, which C gives with a sign; a negative one becomes 0
 unfoldable pub measureOf : ℤ → ℕ
-measureOf (pos n) = sideOf n
+measureOf (pos n) = unsignedOf n
 measureOf (negsuc n) = 0
 
 -- a number of a clip; 65,535 is refused by 8
 unfoldable pub edgeOf : ℕ → ℕ
 edgeOf n = min n 65535
+
+-- a version, W and H as the library takes them, and back in the form that C takes
+abbrev pub basisTaken : GivenBasis → Basis
+basisTaken b = basisBy (unsignedOf (b .version)) (unsignedOf (b .w)) (unsignedOf (b .h))
+
+abbrev pub basisGiven : Basis → GivenBasis
+basisGiven b = record { version = b .version; w = b .w; h = b .h }
 
 unfoldable pub clipOf : GivenClip → Clip
 clipOf c = record { x0 = edgeOf (c .x0); y0 = edgeOf (c .y0); x1 = edgeOf (c .x1); y1 = edgeOf (c .y1) }

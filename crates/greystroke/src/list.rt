@@ -1,4 +1,7 @@
 // Drawing lists: one record read, and a whole list checked.
+use crate::taken::GivenBasis;
+use crate::taken::basis_given;
+use crate::taken::basis_of;
 use lists::check::Checked;
 use lists::read::Reading;
 use shapes::Clip;
@@ -11,7 +14,8 @@ ghost use lib.IntN.{pos};
 ghost use Rattle.lists.specs.Format.{kindSize};
 ghost use Rattle.lists.specs.Read.{readingOf};
 ghost use Rattle.lists.specs.List.{checkedOf};
-ghost use Rattle.greystroke.specs.Lists.{numberedBy, recordAnswer, readAnswer, basisTaken, checkAnswer};
+ghost use Rattle.greystroke.specs.Taken.{basisTaken};
+ghost use Rattle.greystroke.specs.Lists.{numberedBy, recordAnswer, readAnswer, checkAnswer};
 
 // A record where refusal is 0: how many bytes it has, its kind byte and its numbers in their order. What a kind has not is 0.
 #[repr(C)]
@@ -23,13 +27,12 @@ pub struct ReadAnswer {
     pub numbers: [i32; 6],
 }
 
-// The header of a list where refusal is 0; else the place of the refusal.
+// The header of a list where refusal is 0; else the place of the refusal, and zeros.
 #[repr(C)]
 pub struct CheckAnswer {
     pub refusal: u32,
     pub place: usize,
-    pub w: u32,
-    pub h: u32,
+    pub basis: GivenBasis,
     pub background: u8,
 }
 
@@ -72,10 +75,11 @@ fn clip_answer(clip: Clip) -> ReadAnswer
     )
 }
 
-fn level_answer(level: u8) -> ReadAnswer
-    ensures { λ r. ⌜ r ≡ recordAnswer (Record.Setting (Setting.Level level)) ⌝ }
+// A level or a player.
+fn byte_answer(kind: u8, n: u8) -> ReadAnswer
+    ensures { λ r. ⌜ r ≡ numberedBy (kindSize kind) kind (pos n) (pos 0) (pos 0) (pos 0) ⌝ }
 {
-    numbered(2, wide_unsigned(level as u16), 0, 0, 0)
+    numbered(kind, wide_unsigned(n as u16), 0, 0, 0)
 }
 
 fn line_answer(line: Line) -> ReadAnswer
@@ -109,7 +113,8 @@ fn setting_answer(setting: Setting) -> ReadAnswer
 {
     match setting {
         Setting::Clip(clip) => clip_answer(clip),
-        Setting::Level(level) => level_answer(level),
+        Setting::Level(level) => byte_answer(2, level),
+        Setting::Player(player) => byte_answer(7, player),
     }
 }
 
@@ -157,15 +162,17 @@ fn check_answer(checked: Checked) -> CheckAnswer
         Checked::Accepted(header) => CheckAnswer {
             refusal: 0,
             place: 0,
-            w: header.w as u32,
-            h: header.h as u32,
+            basis: basis_given(lists::format::basis_of(header)),
             background: header.background,
         },
         Checked::Refused { refusal, place } => CheckAnswer {
             refusal: refusal as u32,
             place,
-            w: 0,
-            h: 0,
+            basis: GivenBasis {
+                version: 0,
+                w: 0,
+                h: 0,
+            },
             background: 0,
         },
     }
@@ -173,14 +180,10 @@ fn check_answer(checked: Checked) -> CheckAnswer
 
 // Reads the record at the front of some bytes.
 #[no_mangle]
-pub extern "C" fn greystroke_read_record(list: &[u8], w: u32, h: u32) -> ReadAnswer
-    ensures { λ r. ⌜ r ≡ readAnswer (readingOf (basisTaken w h) (now (list .entry))) ⌝ }
+pub extern "C" fn greystroke_read_record(list: &[u8], basis: GivenBasis) -> ReadAnswer
+    ensures { λ r. ⌜ r ≡ readAnswer (readingOf (basisTaken basis) (now (list .entry))) ⌝ }
 {
-    let basis = shapes::Basis {
-        w: crate::taken::side(w),
-        h: crate::taken::side(h),
-    };
-    read_answer(lists::read::read_record(list, basis))
+    read_answer(lists::read::read_record(list, basis_of(basis)))
 }
 
 // Checks a whole list for a page of so many bytes.

@@ -5,7 +5,7 @@ use crate::taken::clip_of;
 use crate::taken::disc_of;
 use crate::taken::line_of;
 use crate::taken::ring_of;
-use crate::taken::side;
+use crate::taken::unsigned;
 ghost use mathlib.Core.Path.{_≡_};
 ghost use lib.ListN.{length};
 ghost use Rattle.greystroke.specs.Taken.{takenOf};
@@ -49,8 +49,8 @@ fn draw(
     ensures { λ r. ⌜ r ≡ shapeDrawn w h (length (now (page .entry))) clip (takenOf shape) ⌝ }
     ensures { λ r. ⌜ now (page .exit) ≡ pageDrawn w h clip level (takenOf shape) (now (page .entry)) ⌝ }
 {
-    let width = side(w);
-    let height = side(h);
+    let width = unsigned(w);
+    let height = unsigned(h);
     let kept = clip_of(clip);
     let kind = shape.kind;
     let numbers = shape.numbers;

@@ -1,17 +1,26 @@
 // The numbers of C, 32 bits wide, as the library takes them. What its 16 bits do not hold becomes a number that it refuses, so that nothing is narrowed in silence.
+use shapes::Basis;
 use shapes::Clip;
 use shapes::Disc;
 use shapes::Line;
 use shapes::Ring;
 use shapes::Shape;
 ghost use mathlib.Core.Path.{_≡_};
-ghost use Rattle.greystroke.specs.Taken.{coordinateOf, sideOf, edgeOf, measureOf, clipOf, lineOf, discOf, ringOf, takenOf};
+ghost use Rattle.greystroke.specs.Taken.{coordinateOf, unsignedOf, edgeOf, measureOf, basisTaken, basisGiven, clipOf, lineOf, discOf, ringOf, takenOf};
 
 // A shape: its kind byte in a list, and its numbers in the order of the record's fields. Numbers past those that the kind has are ignored.
 #[repr(C)]
 pub struct GivenShape {
     pub kind: u32,
     pub numbers: [i32; 6],
+}
+
+// What a record is read and written against: the version of its list, W and H.
+#[repr(C)]
+pub struct GivenBasis {
+    pub version: u32,
+    pub w: u32,
+    pub h: u32,
 }
 
 #[repr(C)]
@@ -41,9 +50,9 @@ pub(crate) fn coordinate(z: i32) -> i16
     z as i16
 }
 
-// W or H.
-pub(crate) fn side(n: u32) -> u16
-    ensures { λ r. ⌜ r ≡ sideOf n ⌝ }
+// An unsigned number: a version, W, H, a radius or a ring's width.
+pub(crate) fn unsigned(n: u32) -> u16
+    ensures { λ r. ⌜ r ≡ unsignedOf n ⌝ }
 {
     if 65535 < n {
         return 0;
@@ -61,14 +70,35 @@ fn edge(n: u32) -> u16
     n as u16
 }
 
-// A radius or a ring's width.
+// A radius or a ring's width, which C gives with a sign.
 fn measure(z: i32) -> u16
     ensures { λ r. ⌜ r ≡ measureOf z ⌝ }
 {
     if z < 0 {
         return 0;
     }
-    side(z as u32)
+    unsigned(z as u32)
+}
+
+pub(crate) fn basis_of(given: GivenBasis) -> Basis
+    ensures { λ r. ⌜ r ≡ basisTaken given ⌝ }
+{
+    Basis {
+        version: unsigned(given.version),
+        w: unsigned(given.w),
+        h: unsigned(given.h),
+    }
+}
+
+// A basis in the form that C takes.
+pub(crate) fn basis_given(basis: Basis) -> GivenBasis
+    ensures { λ r. ⌜ r ≡ basisGiven basis ⌝ }
+{
+    GivenBasis {
+        version: basis.version as u32,
+        w: basis.w as u32,
+        h: basis.h as u32,
+    }
 }
 
 pub(crate) fn clip_of(given: GivenClip) -> Clip

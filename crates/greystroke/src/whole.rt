@@ -1,25 +1,29 @@
 // A whole list on a lent page.
 use drawing::Answer;
+use drawing::Outcome;
+use shapes::PLAYERS;
 ghost use mathlib.Core.Path.{_≡_};
-ghost use Rattle.drawing.specs.Claim.{Claim, listAnswer};
+ghost use Rattle.drawing.specs.Claim.{Claim, listOutcome};
 ghost use Rattle.greystroke.specs.Whole.{listAnswered};
 
-// W, H and how many pixels were touched where refusal is 0; else the place of the refusal.
+// W, H and how many pixels the shapes of each player touched where refusal is 0; else the place of the refusal, and zeros.
 #[repr(C)]
 pub struct ListAnswer {
     pub refusal: u32,
     pub place: usize,
     pub w: u32,
     pub h: u32,
-    pub touched: u64,
+    pub touched: [u64; PLAYERS],
 }
 
 // The library's answer in the form that C takes.
-fn list_answer(answer: Answer) -> ListAnswer
-    ensures { λ r. ⌜ r ≡ listAnswered answer ⌝ }
+fn list_answer(outcome: Outcome) -> ListAnswer
+    ensures { λ r. ⌜ r ≡ listAnswered outcome ⌝ }
 {
+    let answer = outcome.answer;
+    let touched = outcome.touched;
     match answer {
-        Answer::Drawn { w, h, touched } => ListAnswer {
+        Answer::Drawn { w, h } => ListAnswer {
             refusal: 0,
             place: 0,
             w: w as u32,
@@ -31,7 +35,7 @@ fn list_answer(answer: Answer) -> ListAnswer
             place,
             w: 0,
             h: 0,
-            touched: 0,
+            touched,
         },
     }
 }
@@ -39,8 +43,8 @@ fn list_answer(answer: Answer) -> ListAnswer
 // Draws a list.
 #[no_mangle]
 pub extern "C" fn greystroke_draw_list(page: &mut [u8], list: &[u8]) -> ListAnswer
-    ensures { λ r. ⌜ r ≡ listAnswered (listAnswer (now (list .entry)) (now (page .entry))) ⌝ }
-    ensures { λ r. ⌜ Claim (now (list .entry)) (now (page .entry)) (listAnswer (now (list .entry)) (now (page .entry))) (now (page .exit)) ⌝ }
+    ensures { λ r. ⌜ r ≡ listAnswered (listOutcome (now (list .entry)) (now (page .entry))) ⌝ }
+    ensures { λ r. ⌜ Claim (now (list .entry)) (now (page .entry)) (listOutcome (now (list .entry)) (now (page .entry))) (now (page .exit)) ⌝ }
 {
     list_answer(drawing::draw_list(page, list))
 }

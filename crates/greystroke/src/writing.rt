@@ -1,9 +1,13 @@
 // The writer of a drawing list: a header or one record into a lent list.
+use crate::taken::GivenBasis;
 use crate::taken::GivenClip;
 use crate::taken::GivenShape;
 use crate::taken::Taken;
+use crate::taken::basis_given;
+use crate::taken::basis_of;
 use lists::format::Header;
 use lists::write::Written;
+use shapes::Basis;
 use shapes::Record;
 use shapes::Setting;
 ghost use mathlib.Core.Path.{_≡_};
@@ -11,89 +15,84 @@ ghost use Rattle.lists.specs.Write.{headerList};
 ghost use Rattle.greystroke.specs.Taken.{clipOf, takenOf};
 ghost use Rattle.greystroke.specs.Lists.{writeAnswer, headerOf, headerPut, recordPut, afterRecord, shapePut, afterShape};
 
-// Where the next record goes, W and H from now on; after a refusal they are those that were given.
+// Where the next record goes, and the version, W and H that are held from now on; after a refusal they are those that were given.
 #[repr(C)]
 pub struct WriteAnswer {
     pub refusal: u32,
     pub place: usize,
     pub next: usize,
-    pub w: u32,
-    pub h: u32,
+    pub basis: GivenBasis,
 }
 
-// The writer's answer in the form that C takes; w and h are those that were given.
-fn write_answer(w: u32, h: u32, written: Written) -> WriteAnswer
-    ensures { λ r. ⌜ r ≡ writeAnswer w h written ⌝ }
+// The writer's answer in the form that C takes; the basis is the one that was given.
+fn write_answer(basis: GivenBasis, written: Written) -> WriteAnswer
+    ensures { λ r. ⌜ r ≡ writeAnswer basis written ⌝ }
 {
     if 0 < written.refusal {
         return WriteAnswer {
             refusal: written.refusal as u32,
             place: 0,
             next: written.place,
-            w,
-            h,
+            basis,
         };
     }
     WriteAnswer {
         refusal: written.refusal as u32,
         place: 0,
         next: written.place,
-        w: written.w as u32,
-        h: written.h as u32,
+        basis: basis_given(Basis {
+            version: written.version,
+            w: written.w,
+            h: written.h,
+        }),
     }
 }
 
-// Writes a header to byte 0.
+// Writes a header of a version, W and H to byte 0; held is the basis that the writer holds.
 #[no_mangle]
 pub extern "C" fn greystroke_write_header(
     list: &mut [u8],
     place: usize,
-    w: u32,
-    h: u32,
-    width: u32,
-    height: u32,
+    held: GivenBasis,
+    basis: GivenBasis,
     background: u8,
 ) -> WriteAnswer
-    ensures { λ r. ⌜ r ≡ headerPut (now (list .entry)) place w h (headerOf width height background) ⌝ }
-    ensures { λ r. ⌜ now (list .exit) ≡ headerList (now (list .entry)) (headerOf width height background) ⌝ }
+    ensures { λ r. ⌜ r ≡ headerPut (now (list .entry)) place held (headerOf basis background) ⌝ }
+    ensures { λ r. ⌜ now (list .exit) ≡ headerList (now (list .entry)) (headerOf basis background) ⌝ }
 {
+    let kept = basis_of(held);
+    let told = basis_of(basis);
     let header = Header {
-        w: crate::taken::side(width),
-        h: crate::taken::side(height),
+        version: told.version,
+        w: told.w,
+        h: told.h,
         background,
     };
-    let written = lists::write::write_header(
-        list,
-        place,
-        crate::taken::side(w),
-        crate::taken::side(h),
-        header,
-    );
-    write_answer(w, h, written)
+    let written = lists::write::write_header(list, place, kept.version, kept.w, kept.h, header);
+    write_answer(held, written)
 }
 
 // Every record is written so.
-fn write(list: &mut [u8], place: usize, w: u32, h: u32, rec: Record) -> WriteAnswer
-    ensures { λ r. ⌜ r ≡ recordPut (now (list .entry)) place w h rec ⌝ }
-    ensures { λ r. ⌜ now (list .exit) ≡ afterRecord (now (list .entry)) place w h rec ⌝ }
+fn write(list: &mut [u8], place: usize, basis: GivenBasis, rec: Record) -> WriteAnswer
+    ensures { λ r. ⌜ r ≡ recordPut (now (list .entry)) place basis rec ⌝ }
+    ensures { λ r. ⌜ now (list .exit) ≡ afterRecord (now (list .entry)) place basis rec ⌝ }
 {
-    let written = lists::write::write_record(
-        list,
-        place,
-        crate::taken::side(w),
-        crate::taken::side(h),
-        rec,
-    );
-    write_answer(w, h, written)
+    let kept = basis_of(basis);
+    let written = lists::write::write_record(list, place, kept.version, kept.w, kept.h, rec);
+    write_answer(basis, written)
 }
 
 // Writes an end record to the place.
 #[no_mangle]
-pub extern "C" fn greystroke_write_end(list: &mut [u8], place: usize, w: u32, h: u32) -> WriteAnswer
-    ensures { λ r. ⌜ r ≡ recordPut (now (list .entry)) place w h Record.End ⌝ }
-    ensures { λ r. ⌜ now (list .exit) ≡ afterRecord (now (list .entry)) place w h Record.End ⌝ }
+pub extern "C" fn greystroke_write_end(
+    list: &mut [u8],
+    place: usize,
+    basis: GivenBasis,
+) -> WriteAnswer
+    ensures { λ r. ⌜ r ≡ recordPut (now (list .entry)) place basis Record.End ⌝ }
+    ensures { λ r. ⌜ now (list .exit) ≡ afterRecord (now (list .entry)) place basis Record.End ⌝ }
 {
-    write(list, place, w, h, Record::End)
+    write(list, place, basis, Record::End)
 }
 
 // Writes a clip to the place.
@@ -101,15 +100,14 @@ pub extern "C" fn greystroke_write_end(list: &mut [u8], place: usize, w: u32, h:
 pub extern "C" fn greystroke_write_clip(
     list: &mut [u8],
     place: usize,
-    w: u32,
-    h: u32,
+    basis: GivenBasis,
     clip: GivenClip,
 ) -> WriteAnswer
-    ensures { λ r. ⌜ r ≡ recordPut (now (list .entry)) place w h (Record.Setting (Setting.Clip (clipOf clip))) ⌝ }
-    ensures { λ r. ⌜ now (list .exit) ≡ afterRecord (now (list .entry)) place w h (Record.Setting (Setting.Clip (clipOf clip))) ⌝ }
+    ensures { λ r. ⌜ r ≡ recordPut (now (list .entry)) place basis (Record.Setting (Setting.Clip (clipOf clip))) ⌝ }
+    ensures { λ r. ⌜ now (list .exit) ≡ afterRecord (now (list .entry)) place basis (Record.Setting (Setting.Clip (clipOf clip))) ⌝ }
 {
     let kept = crate::taken::clip_of(clip);
-    write(list, place, w, h, Record::Setting(Setting::Clip(kept)))
+    write(list, place, basis, Record::Setting(Setting::Clip(kept)))
 }
 
 // Writes a level to the place.
@@ -117,14 +115,27 @@ pub extern "C" fn greystroke_write_clip(
 pub extern "C" fn greystroke_write_level(
     list: &mut [u8],
     place: usize,
-    w: u32,
-    h: u32,
+    basis: GivenBasis,
     level: u8,
 ) -> WriteAnswer
-    ensures { λ r. ⌜ r ≡ recordPut (now (list .entry)) place w h (Record.Setting (Setting.Level level)) ⌝ }
-    ensures { λ r. ⌜ now (list .exit) ≡ afterRecord (now (list .entry)) place w h (Record.Setting (Setting.Level level)) ⌝ }
+    ensures { λ r. ⌜ r ≡ recordPut (now (list .entry)) place basis (Record.Setting (Setting.Level level)) ⌝ }
+    ensures { λ r. ⌜ now (list .exit) ≡ afterRecord (now (list .entry)) place basis (Record.Setting (Setting.Level level)) ⌝ }
 {
-    write(list, place, w, h, Record::Setting(Setting::Level(level)))
+    write(list, place, basis, Record::Setting(Setting::Level(level)))
+}
+
+// Writes a player to the place.
+#[no_mangle]
+pub extern "C" fn greystroke_write_player(
+    list: &mut [u8],
+    place: usize,
+    basis: GivenBasis,
+    player: u8,
+) -> WriteAnswer
+    ensures { λ r. ⌜ r ≡ recordPut (now (list .entry)) place basis (Record.Setting (Setting.Player player)) ⌝ }
+    ensures { λ r. ⌜ now (list .exit) ≡ afterRecord (now (list .entry)) place basis (Record.Setting (Setting.Player player)) ⌝ }
+{
+    write(list, place, basis, Record::Setting(Setting::Player(player)))
 }
 
 // Writes a shape to the place.
@@ -132,21 +143,19 @@ pub extern "C" fn greystroke_write_level(
 pub extern "C" fn greystroke_write_shape(
     list: &mut [u8],
     place: usize,
-    w: u32,
-    h: u32,
+    basis: GivenBasis,
     shape: GivenShape,
 ) -> WriteAnswer
-    ensures { λ r. ⌜ r ≡ shapePut (now (list .entry)) place w h (takenOf shape) ⌝ }
-    ensures { λ r. ⌜ now (list .exit) ≡ afterShape (now (list .entry)) place w h (takenOf shape) ⌝ }
+    ensures { λ r. ⌜ r ≡ shapePut (now (list .entry)) place basis (takenOf shape) ⌝ }
+    ensures { λ r. ⌜ now (list .exit) ≡ afterShape (now (list .entry)) place basis (takenOf shape) ⌝ }
 {
     match crate::taken::taken_of(shape) {
-        Taken::Known(known) => write(list, place, w, h, Record::Shape(known)),
+        Taken::Known(known) => write(list, place, basis, Record::Shape(known)),
         Taken::Unknown => WriteAnswer {
             refusal: 4,
             place: 0,
             next: place,
-            w,
-            h,
+            basis,
         },
     }
 }

@@ -3,16 +3,16 @@ use lib.Dec.{eqb}
 use mathlib.Core.Path.{_≡_, refl}
 use mathlib.Core.Bool.{Bool, true, false, cond}
 use mathlib.Core.List.{List}
-use Prim.Native.Nat.{ℕ, _-_, _≤_, _<_}
+use Prim.Native.Nat.{ℕ, zero, suc, _-_, _≤_, _<_}
 use native.Mathlib.Omega.{arith}
-use borrow.Author.Tests.{ne-eqb}
+use borrow.Author.Tests.{ne-eqb, ltb-false}
 use lib.ListN.{length, replicate}
 use lib.Seq.{paste, take-append-seam}
 use Rattle.shapes.specs.declared.Shape.the-variants.{Line as line, Disc as disc, Ring as ring}
-use Rattle.shapes.specs.declared.Setting.the-variants.{Clip as clip, Level as level}
+use Rattle.shapes.specs.declared.Setting.the-variants.{Clip as clip, Level as level, Player as player}
 use Rattle.shapes.specs.declared.Record.{Record}
 use Rattle.shapes.specs.declared.Record.the-variants.{End as end, Setting as setting, Shape as shape}
-use Rattle.lists.specs.Format.{kindSize, kindOf, fieldsOf, recordBytes}
+use Rattle.lists.specs.Format.{kindSize, lastKind, offKind, kindOf, fieldsOf, decoded, recordBytes}
 use Rattle.lists.specs.inner.Record.{recordMost, padded}
 use Rattle.lists.specs.Write.{putAt}
 
@@ -24,6 +24,7 @@ unfolding kindSize kindOf fieldsOf
 record-size end = refl
 record-size (setting (clip c)) = refl
 record-size (setting (level v)) = refl
+record-size (setting (player p)) = refl
 record-size (shape (line l)) = of-line (l .exact)
   where
     of-line : (exact : Bool) → kindSize (cond exact 3 4) ≡ 9
@@ -32,18 +33,52 @@ record-size (shape (line l)) = of-line (l .exact)
 record-size (shape (disc d)) = refl
 record-size (shape (ring g)) = refl
 
--- kinds above 6 are unknown
-pub unknown-kind : (k : ℕ) → 6 < k → kindSize k ≡ 0
+-- kinds above 7 are unknown
+pub unknown-kind : (k : ℕ) → 7 < k → kindSize k ≡ 0
 unfolding kindSize
 unknown-kind k h =
-    let other : (j : ℕ) → j ≤ 6 → eqb k j ≡ false = λ j i. ne-eqb k j (λ e. omega arith) in
-    simp (other 0 (omega arith), other 1 (omega arith), other 2 (omega arith), other 3 (omega arith), other 4 (omega arith), other 5 (omega arith), other 6 (omega arith))
+    let other : (j : ℕ) → j ≤ 7 → eqb k j ≡ false = λ j i. ne-eqb k j (λ e. omega arith) in
+    simp (other 0 (omega arith), other 1 (omega arith), other 2 (omega arith), other 3 (omega arith), other 4 (omega arith), other 5 (omega arith), other 6 (omega arith), other 7 (omega arith))
+
+-- each kind of a version has a row
+last-most : (b : Bool) → cond b 6 7 ≤ 7
+last-most true = omega arith
+last-most false = omega arith
+
+pub known-kind : (v k : ℕ) → offKind v k ≡ false → 0 < kindSize k
+unfolding kindSize
+known-kind v k e = go k (let h = ltb-false (lastKind v) k e in omega (arith, last-most (eqb v 1)))
+  where
+    go : (k : ℕ) → k ≤ 7 → 0 < kindSize k
+    go zero h = omega arith
+    go (suc zero) h = omega arith
+    go (suc (suc zero)) h = omega arith
+    go (suc (suc (suc zero))) h = omega arith
+    go (suc (suc (suc (suc zero)))) h = omega arith
+    go (suc (suc (suc (suc (suc zero))))) h = omega arith
+    go (suc (suc (suc (suc (suc (suc zero)))))) h = omega arith
+    go (suc (suc (suc (suc (suc (suc (suc zero))))))) h = omega arith
+    go (suc (suc (suc (suc (suc (suc (suc (suc k)))))))) h = absurd (omega arith)
+
+-- a record that was read is of the kind that it was read by
+pub kind-found : (k : ℕ) (s : List ℕ) → 0 < kindSize k → kindOf (decoded k s) ≡ k
+unfolding kindSize kindOf decoded
+kind-found zero s h = refl
+kind-found (suc zero) s h = refl
+kind-found (suc (suc zero)) s h = refl
+kind-found (suc (suc (suc zero))) s h = refl
+kind-found (suc (suc (suc (suc zero)))) s h = refl
+kind-found (suc (suc (suc (suc (suc zero))))) s h = refl
+kind-found (suc (suc (suc (suc (suc (suc zero)))))) s h = refl
+kind-found (suc (suc (suc (suc (suc (suc (suc zero))))))) s h = refl
+kind-found (suc (suc (suc (suc (suc (suc (suc (suc k)))))))) s h = absurd (let z = unknown-kind (suc (suc (suc (suc (suc (suc (suc (suc k)))))))) (omega arith) in omega arith)
 
 pub record-most : (r : Record) → length (recordBytes r) ≤ recordMost
 unfolding fieldsOf
 record-most end = omega arith
 record-most (setting (clip c)) = omega arith
 record-most (setting (level v)) = omega arith
+record-most (setting (player p)) = omega arith
 record-most (shape (line l)) = omega arith
 record-most (shape (disc d)) = omega arith
 record-most (shape (ring g)) = omega arith

@@ -4,30 +4,44 @@ use mathlib.Core.Bool.{true}
 use mathlib.Core.List.{List, [], _∷_, _++_}
 use Prim.Native.Nat.{ℕ}
 use lib.IntN.{pos}
-use Rattle.shapes.specs.Limits.{sizeRefusal, offSize, shapeRefusal, offRange, refusalsOf, recordRefusal}
+use Rattle.shapes.specs.Limits.{sizeRefusal, basisRefusal, offSize, playerRefusal, shapeRefusal, offRange, refusalsOf, recordRefusal}
 use Rattle.shapes.specs.declared.Shape.the-variants.{Line as line}
-use Rattle.shapes.specs.declared.Record.the-variants.{End as end, Shape as shape}
+use Rattle.shapes.specs.declared.Setting.the-variants.{Player as player}
+use Rattle.shapes.specs.declared.Record.{Record}
+use Rattle.shapes.specs.declared.Record.the-variants.{End as end, Setting as setting, Shape as shape}
 use Rattle.lists.specs.Format.{kindSize, decoded}
 use Rattle.lists.specs.Read.{readRefusal}
 use Rattle.lists.specs.List.{accepted, refused, headerRefusal, recordsFrom, recordsOf, pageRecords}
 
--- a page of 4 by 3, black
-abbrev start : List ℕ
-start = 73 ∷ 78 ∷ 75 ∷ 1 ∷ 0 ∷ 4 ∷ 0 ∷ 3 ∷ 0 ∷ 0 ∷ []
+-- a list of version v with a page of 4 by 3, black
+abbrev start : ℕ → List ℕ
+start v = 73 ∷ 78 ∷ 75 ∷ v ∷ 0 ∷ 4 ∷ 0 ∷ 3 ∷ 0 ∷ 0 ∷ []
 
--- the exact line from (1, 1) to (3, 2)
+-- the exact line from (1, 1) to (3, 2), as bytes and as a record
 abbrev stroke : List ℕ
 stroke = 3 ∷ 1 ∷ 0 ∷ 1 ∷ 0 ∷ 3 ∷ 0 ∷ 2 ∷ 0 ∷ []
+
+abbrev line-record : Record
+line-record = shape (line (record { exact = true; x0 = pos 1; y0 = pos 1; x1 = pos 3; y1 = pos 2 }))
 
 -- a line that is a point
 abbrev point : List ℕ
 point = 3 ∷ 1 ∷ 0 ∷ 1 ∷ 0 ∷ 1 ∷ 0 ∷ 1 ∷ 0 ∷ []
 
 -- as it stands; on a page that is too short; without an end record; with a surplus byte; with a refusal and a surplus byte
-worked : (pageRecords (start ++ stroke ++ 0 ∷ []) 12 ≡ accepted (shape (line (record { exact = true; x0 = pos 1; y0 = pos 1; x1 = pos 3; y1 = pos 2 })) ∷ end ∷ []))
-    × (pageRecords (start ++ stroke ++ 0 ∷ []) 11 ≡ refused 21 0)
-    × (pageRecords (start ++ stroke) 12 ≡ refused 5 19)
-    × (pageRecords (start ++ stroke ++ 0 ∷ 0 ∷ []) 12 ≡ refused 6 20)
-    × (pageRecords (start ++ point ++ 0 ∷ 0 ∷ []) 12 ≡ refused 9 10)
-unfolding sizeRefusal offSize shapeRefusal offRange refusalsOf recordRefusal kindSize decoded readRefusal headerRefusal recordsFrom recordsOf
+worked : (pageRecords (start 1 ++ stroke ++ 0 ∷ []) 12 ≡ accepted (line-record ∷ end ∷ []))
+    × (pageRecords (start 1 ++ stroke ++ 0 ∷ []) 11 ≡ refused 21 0)
+    × (pageRecords (start 1 ++ stroke) 12 ≡ refused 5 19)
+    × (pageRecords (start 1 ++ stroke ++ 0 ∷ 0 ∷ []) 12 ≡ refused 6 20)
+    × (pageRecords (start 1 ++ point ++ 0 ∷ 0 ∷ []) 12 ≡ refused 9 10)
+unfolding sizeRefusal basisRefusal offSize shapeRefusal offRange refusalsOf recordRefusal kindSize decoded readRefusal headerRefusal recordsFrom recordsOf
 worked = (refl, refl, refl, refl, refl)
+
+-- a player in version 2; in version 1; above 7; cut short; and a version that there is not
+players : (pageRecords (start 2 ++ 7 ∷ 3 ∷ stroke ++ 0 ∷ []) 12 ≡ accepted (setting (player 3) ∷ line-record ∷ end ∷ []))
+    × (pageRecords (start 1 ++ 7 ∷ 3 ∷ stroke ++ 0 ∷ []) 12 ≡ refused 4 10)
+    × (pageRecords (start 2 ++ 7 ∷ 8 ∷ stroke ++ 0 ∷ []) 12 ≡ refused 31 10)
+    × (pageRecords (start 2 ++ 7 ∷ []) 12 ≡ refused 5 10)
+    × (pageRecords (start 3 ++ 7 ∷ 3 ∷ stroke ++ 0 ∷ []) 12 ≡ refused 2 0)
+unfolding sizeRefusal basisRefusal offSize playerRefusal shapeRefusal offRange refusalsOf recordRefusal kindSize decoded readRefusal headerRefusal recordsFrom recordsOf
+players = (refl, refl, refl, refl, refl)

@@ -1,24 +1,28 @@
 -- A walk over the records of an accepted list: what is left of it at a place, where the settings f are in force.
 use mathlib.Core.Path.{_≡_, sym, _∙_, ap, subst}
+use mathlib.Core.Bool.{Bool, true, false, cond}
 use mathlib.Core.List.{List, [], _∷_, _++_}
 use Prim.Native.Nat.{ℕ, suc, _+_, _-_, _≤_, _<_}
 use native.Mathlib.Nat.{le-of-eq}
 use native.Mathlib.Omega.{arith}
-use borrow.Author.Tests.{le-leb}
+use borrow.Author.Tests.{le-leb, ltb-false}
+use lib.Dec.{ltb, eqb}
 use lib.ListN.{length, getD, take, drop, length-drop}
 use lib.Seq.{take-all, drop-drop, getD-drop}
-use Rattle.shapes.specs.Limits.{offPage, sizeRefusal, clipRefusal, recordRefusal}
+use Rattle.shapes.specs.Limits.{offPage, basisRefusal, clipRefusal, playerRefusal, recordRefusal}
+use Rattle.shapes.proofs.Limits.{clear}
 use Rattle.shapes.specs.declared.Basis.{Basis}
 use Rattle.shapes.specs.declared.Record.{Record}
-use Rattle.shapes.specs.declared.Setting.the-variants.{Clip as clip, Level as level}
+use Rattle.shapes.specs.declared.Setting.the-variants.{Clip as clip, Level as level, Player as player}
 use Rattle.shapes.specs.declared.Record.the-variants.{End as end, Setting as setting, Shape as shape}
-use Rattle.lists.specs.Format.{listMost, headerSize, kindSize, kindAt, sizeAt, decoded, recordAt}
+use Rattle.lists.specs.Format.{listMost, headerSize, kindSize, offKind, kindOf, kindAt, sizeAt, decoded, recordAt}
 use Rattle.lists.specs.inner.Record.{Whole}
+use Rattle.lists.proofs.Bytes.{kind-found}
 use Rattle.lists.proofs.Refusals.{Readable}
 use Rattle.lists.proofs.Accepted.{Holds, holds, holds-readable, holds-end, Next, holds-next}
 use Rattle.lists.specs.Settings.{start, inForce}
 use Rattle.lists.specs.Drawing.{drawingOf, drawingsFrom}
-use Rattle.lists.specs.inner.Walk.{recordsIn, listRecords, Walkable}
+use Rattle.lists.specs.inner.Walk.{recordsIn, listRecords, playersIn, Walkable}
 use Rattle.lists.specs.declared.settings.Settings.{Settings}
 
 -- ---- the clip in force stays on the page
@@ -33,7 +37,32 @@ unfolding recordRefusal inForce
 clip-kept b f end z k = k
 clip-kept b f (setting (clip c)) z k = z
 clip-kept b f (setting (level v)) z k = k
+clip-kept b f (setting (player p)) z k = k
 clip-kept b f (shape s) z k = k
+
+-- ---- the player in force is one of the version's
+
+pub start-player : (b : Basis) → start b .player < playersIn (b .version)
+unfolding start
+start-player b = go (eqb (b .version) 1)
+  where
+    go : (one : Bool) → 0 < cond one 1 8
+    go true = omega arith
+    go false = omega arith
+
+-- a version that has kind 7 has eight players
+pub player-kept : (b : Basis) (f : Settings) (r : Record) → offKind (b .version) (kindOf r) ≡ false → recordRefusal b r ≡ 0
+    → f .player < playersIn (b .version) → inForce f r .player < playersIn (b .version)
+unfolding kindOf recordRefusal playerRefusal inForce
+player-kept b f end o z k = k
+player-kept b f (setting (clip c)) o z k = k
+player-kept b f (setting (level v)) o z k = k
+player-kept b f (setting (player p)) o z k = go (eqb (b .version) 1) o
+  where
+    go : (one : Bool) → ltb (cond one 6 7) 7 ≡ false → p < cond one 1 8
+    go true e = absurd (let h = ltb-false 6 7 e in omega arith)
+    go false e = let h = ltb-false 7 p (clear (ltb 7 p) 30 0 z .0) in omega arith
+player-kept b f (shape s) o z k = k
 
 -- ---- what is left
 
@@ -44,13 +73,14 @@ end-record s z = rw z
 pub record Left (b : Basis) (list : List ℕ) (place : ℕ) (f : Settings) (records : List Record) : Type 0 where
   pub holds : Holds b (drop place list) records
   pub clip : clipRefusal (b .w) (b .h) (f .clip) ≡ 0
+  pub player : f .player < playersIn (b .version)
   pub most : length list ≤ listMost
 
 -- at the start all is left
 pub left-start : (b : Basis) (list : List ℕ) → Walkable list b → Left b list headerSize (start b) (recordsIn (listRecords b list))
 unfolding listRecords
 left-start b list d =
-    record { holds = holds b (suc (length list)) (drop headerSize list) headerSize _ (d .is); clip = start-clip b; most = d .most }
+    record { holds = holds b (suc (length list)) (drop headerSize list) headerSize _ (d .is); clip = start-clip b; player = start-player b; most = d .most }
 
 module _ {b : Basis} {place : ℕ} {list : List ℕ} {f : Settings} {records : List Record} (p : Left b list place f records) where
   abbrev here : List ℕ
@@ -62,8 +92,8 @@ module _ {b : Basis} {place : ℕ} {list : List ℕ} {f : Settings} {records : L
   readable-here : Readable b here
   readable-here = holds-readable b here records (p .holds)
 
-  pub left-page : sizeRefusal (b .w) (b .h) ≡ 0
-  left-page = readable-here .page
+  pub left-basis : basisRefusal b ≡ 0
+  left-basis = readable-here .basis
 
   pub left-inside : (place < length list) × (kindSize (getD list place 0) + place ≤ length list) × (0 < kindSize (getD list place 0))
   left-inside =
@@ -94,6 +124,11 @@ module _ {b : Basis} {place : ℕ} {list : List ℕ} {f : Settings} {records : L
     pub left-lawful : recordRefusal b r ≡ 0
     left-lawful = ap (recordRefusal b) left-found ∙ readable-here .lawful
 
+    left-known : offKind (b .version) (kindOf r) ≡ false
+    left-known =
+        ap (λ (q : Record). offKind (b .version) (kindOf q)) left-found
+        ∙ ap (offKind (b .version)) (kind-found (kindAt here) here (readable-here .whole .known)) ∙ readable-here .kind
+
     -- and is no end: the rest is left
     module _ (some : getD list place 0 ≡ 0 → ⊥) {after : ℕ} {g : Settings} (next : g ≡ inForce f r) (past : after ≡ place + kindSize (getD list place 0)) where
       rest : Next b here records
@@ -123,6 +158,7 @@ module _ {b : Basis} {place : ℕ} {list : List ℕ} {f : Settings} {records : L
                       (drop-drop (sizeAt here) place list ∙ ap (λ (j : ℕ). drop (place + j) list) (ap kindSize left-kind) ∙ ap (λ (j : ℕ). drop j list) (sym past))
                       (rest .left);
                   clip = subst (λ (q : Settings). clipRefusal (b .w) (b .h) (q .clip) ≡ 0) (sym next) (clip-kept b f r left-lawful (p .clip));
+                  player = subst (λ (q : Settings). q .player < playersIn (b .version)) (sym next) (player-kept b f r left-known left-lawful (p .player));
                   most = p .most;
                 };
           }

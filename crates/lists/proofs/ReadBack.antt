@@ -11,15 +11,15 @@ use lib.Seq.{drop-at, length-take-le}
 use Rattle.numbers.specs.Coordinate.{bitsOf, signedOf, wordOf}
 use Rattle.numbers.proofs.Integer.{sfits-diff}
 use Rattle.numbers.proofs.Coordinate.{InRange, signed-bits, word-bytes}
-use Rattle.shapes.specs.Limits.{sized, sizeRefusal, shapeRefusal, recordRefusal}
+use Rattle.shapes.specs.Limits.{basisRefusal, shapeRefusal, recordRefusal}
 use Rattle.shapes.specs.declared.Line.{Line}
 use Rattle.shapes.specs.declared.Shape.{Shape}
 use Rattle.shapes.specs.declared.Shape.the-variants.{Line as line, Disc as disc, Ring as ring}
-use Rattle.shapes.specs.declared.Setting.the-variants.{Clip as clip, Level as level}
+use Rattle.shapes.specs.declared.Setting.the-variants.{Clip as clip, Level as level, Player as player}
 use Rattle.shapes.specs.declared.Basis.{Basis}
 use Rattle.shapes.specs.declared.Record.{Record}
 use Rattle.shapes.specs.declared.Record.the-variants.{End as end, Setting as setting, Shape as shape}
-use Rattle.lists.specs.Format.{kindOf, fieldsOf, recordBytes, coordinates, lineAt, sizeAt, decoded, recordAt}
+use Rattle.lists.specs.Format.{offKind, kindOf, fieldsOf, recordBytes, coordinates, lineAt, sizeAt, decoded, recordAt}
 use Rattle.lists.specs.Read.{readRefusal, readingOf, pastRecord}
 use Rattle.lists.specs.Write.{putAt, recordWritten, recordList}
 use Rattle.lists.specs.declared.read.Reading.the-variants.{Found}
@@ -64,28 +64,28 @@ module _ (t : List ℕ) where
   record-back b (setting (clip c)) e =
       λ i. setting (clip (record { x0 = word-bytes (c .x0) i; y0 = word-bytes (c .y0) i; x1 = word-bytes (c .x1) i; y1 = word-bytes (c .y1) i }))
   record-back b (setting (level v)) e = refl
+  record-back b (setting (player p)) e = refl
   record-back b (shape s) e = shape-back s e
 
-  -- and it is read without a refusal
-  pub no-refusal : (b : Basis) (r : Record) → sizeRefusal (b .w) (b .h) ≡ 0 → recordRefusal b r ≡ 0 → readRefusal b (recordBytes r ++ t) ≡ 0
-  unfolding readRefusal
-  no-refusal b r page lawful =
-      let size = record-size r in
-      let long = length-append (recordBytes r) t in
-      let s : List ℕ = recordBytes r ++ t in
-      let known = ne-eqb (sizeAt s) 0 (λ e. omega arith) in
-      let fits = le-ltb (length s) (sizeAt s) (omega arith) in
-      simp (page, ne-eqb (length s) 0 (λ e. omega arith), known, fits, ap (recordRefusal b) (record-back b r lawful) ∙ lawful)
+  -- and where its version has its kind, it is read without a refusal
+  module _ (b : Basis) (r : Record) (basis : basisRefusal b ≡ 0) (kind : offKind (b .version) (kindOf r) ≡ false) (lawful : recordRefusal b r ≡ 0) where
+    pub no-refusal : readRefusal b (recordBytes r ++ t) ≡ 0
+    unfolding readRefusal
+    no-refusal =
+        let size = record-size r in
+        let long = length-append (recordBytes r) t in
+        let s : List ℕ = recordBytes r ++ t in
+        let fits = le-ltb (length s) (sizeAt s) (omega arith) in
+        simp (basis, ne-eqb (length s) 0 (λ e. omega arith), kind, fits, ap (recordRefusal b) (record-back b r lawful) ∙ lawful)
 
-  pub read-bytes : (b : Basis) (r : Record) → sizeRefusal (b .w) (b .h) ≡ 0 → recordRefusal b r ≡ 0 → readingOf b (recordBytes r ++ t) ≡ Found r
-  unfolding readingOf
-  read-bytes b r page lawful = simp (no-refusal b r page lawful) (ap Found (record-back b r lawful))
+    pub read-bytes : readingOf b (recordBytes r ++ t) ≡ Found r
+    unfolding readingOf
+    read-bytes = simp no-refusal (ap Found (record-back b r lawful))
 
-  -- the bytes past it are handed back: drop (its size) (its bytes ++ t) = t
-  pub past-bytes : (b : Basis) (r : Record) → sizeRefusal (b .w) (b .h) ≡ 0 → recordRefusal b r ≡ 0 → pastRecord b (recordBytes r ++ t) ≡ t
-  unfolding pastRecord
-  past-bytes b r page lawful =
-      simp (no-refusal b r page lawful) (drop-at (recordBytes r) t (sizeAt (recordBytes r ++ t)) (sym (record-size r)))
+    -- the bytes past it are handed back: drop (its size) (its bytes ++ t) = t
+    pub past-bytes : pastRecord b (recordBytes r ++ t) ≡ t
+    unfolding pastRecord
+    past-bytes = simp no-refusal (drop-at (recordBytes r) t (sizeAt (recordBytes r ++ t)) (sym (record-size r)))
 
 -- ---- the bytes of a list from the place on
 
@@ -97,21 +97,21 @@ drop-put l place bs h =
 
 -- where the writer refuses nothing, the record is read at the place where it was written:
 -- drop place (the list written) = its bytes ++ rest, and a record reads back from its bytes
-pub read-written : (l : List ℕ) (place w h : ℕ) (r : Record) → recordWritten l place w h r .refusal ≡ 0
-    → readingOf (sized w h) (drop place (recordList l place w h r)) ≡ Found r
-read-written l place w h r e =
-    let f = written-refusal l place w h r e in
-    let p = writable (length l) place (sized w h) r f in
-    ap (λ (m : List ℕ). readingOf (sized w h) (drop place m)) (sym (record-done l place w h r f .1))
-    ∙ ap (readingOf (sized w h)) (drop-put l place (recordBytes r) (omega (arith, p .room .inside)))
-    ∙ read-bytes (drop (place + length (recordBytes r)) l) (sized w h) r (p .page) (p .lawful)
+pub read-written : (l : List ℕ) (place : ℕ) (b : Basis) (r : Record) → recordWritten l place b r .refusal ≡ 0
+    → readingOf b (drop place (recordList l place b r)) ≡ Found r
+read-written l place b r e =
+    let f = written-refusal l place b r e in
+    let p = writable (length l) place b r f in
+    ap (λ (m : List ℕ). readingOf b (drop place m)) (sym (record-done l place b r f .1))
+    ∙ ap (readingOf b) (drop-put l place (recordBytes r) (omega (arith, p .room .inside)))
+    ∙ read-bytes (drop (place + length (recordBytes r)) l) b r (p .basis) (p .kind) (p .lawful)
 
 -- and the part past it is handed back: what stood behind it in the list
-pub past-written : (l : List ℕ) (place w h : ℕ) (r : Record) → recordWritten l place w h r .refusal ≡ 0
-    → pastRecord (sized w h) (drop place (recordList l place w h r)) ≡ drop (place + length (recordBytes r)) l
-past-written l place w h r e =
-    let f = written-refusal l place w h r e in
-    let p = writable (length l) place (sized w h) r f in
-    ap (λ (m : List ℕ). pastRecord (sized w h) (drop place m)) (sym (record-done l place w h r f .1))
-    ∙ ap (pastRecord (sized w h)) (drop-put l place (recordBytes r) (omega (arith, p .room .inside)))
-    ∙ past-bytes (drop (place + length (recordBytes r)) l) (sized w h) r (p .page) (p .lawful)
+pub past-written : (l : List ℕ) (place : ℕ) (b : Basis) (r : Record) → recordWritten l place b r .refusal ≡ 0
+    → pastRecord b (drop place (recordList l place b r)) ≡ drop (place + length (recordBytes r)) l
+past-written l place b r e =
+    let f = written-refusal l place b r e in
+    let p = writable (length l) place b r f in
+    ap (λ (m : List ℕ). pastRecord b (drop place m)) (sym (record-done l place b r f .1))
+    ∙ ap (pastRecord b) (drop-put l place (recordBytes r) (omega (arith, p .room .inside)))
+    ∙ past-bytes (drop (place + length (recordBytes r)) l) b r (p .basis) (p .kind) (p .lawful)

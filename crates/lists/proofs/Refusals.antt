@@ -4,40 +4,44 @@ use mathlib.Core.Bool.{Bool, true, false, not, cond}
 use mathlib.Core.List.{List, []}
 use Prim.Native.Nat.{ℕ, zero, suc, _≤_, _<_}
 use native.Mathlib.Omega.{arith}
-use borrow.Author.Tests.{lt-ltb, ltb-false, eqb-true, eqb-false, not-false}
+use borrow.Author.Tests.{lt-ltb, ltb-false, not-false}
 use lib.Dec.{ltb, eqb}
 use lib.ListN.{length, drop}
-use Rattle.shapes.specs.Limits.{first, sizeRefusal, shapeRefusal, recordRefusal}
+use Rattle.shapes.specs.Limits.{first, basisRefusal, shapeRefusal, recordRefusal}
 use Rattle.shapes.proofs.Limits.{clear, tried-clear, disc-lawful, ring-lawful}
 use Rattle.shapes.specs.declared.Shape.{Shape}
 use Rattle.shapes.specs.declared.Shape.the-variants.{Line as line, Disc as disc, Ring as ring}
 use Rattle.shapes.specs.declared.Basis.{Basis}
 use Rattle.shapes.specs.declared.Record.{Record}
 use Rattle.shapes.specs.declared.Record.the-variants.{End as end, Setting as setting, Shape as shape}
-use Rattle.lists.specs.Format.{listMost, headerSize, version, wordAt, headerAt, basisOf, sizeAt, recordAt}
+use Rattle.lists.specs.Format.{listMost, headerSize, headerAt, basisOf, offKind, kindAt, sizeAt, recordAt}
 use Rattle.lists.specs.inner.Record.{Whole, OneByte, OneByteRecord}
+use Rattle.lists.proofs.Bytes.{known-kind}
 use Rattle.lists.specs.Read.{readRefusal}
 use Rattle.lists.specs.List.{refused, hasMark, headerRefusal, recordsFrom, recordsOf}
 
 -- ---- one record
 
 pub record Readable (b : Basis) (s : List ℕ) : Type 0 where
-  pub page : sizeRefusal (b .w) (b .h) ≡ 0
+  pub basis : basisRefusal b ≡ 0
+  pub kind : offKind (b .version) (kindAt s) ≡ false
   pub whole : Whole s
   pub lawful : recordRefusal b (recordAt s) ≡ 0
 
 pub readable : (b : Basis) (s : List ℕ) → readRefusal b s ≡ 0 → Readable b s
 unfolding readRefusal
 readable b s e =
-    let page = tried-clear (sizeRefusal (b .w) (b .h)) _ e in
-    let some = clear (eqb (length s) 0) 4 _ (page .1) in
-    let known = clear (eqb (sizeAt s) 0) 3 _ (some .1) in
-    let fits = clear (ltb (length s) (sizeAt s)) 4 _ (known .1) in
+    let basis = tried-clear (basisRefusal b) _ e in
+    let some = clear (eqb (length s) 0) 4 _ (basis .1) in
+    let kind = clear (offKind (b .version) (kindAt s)) 3 _ (some .1) in
+    let fits = clear (ltb (length s) (sizeAt s)) 4 _ (kind .1) in
     let lawful = tried-clear (recordRefusal b (recordAt s)) 0 (fits .1) in
-    record { page = page .0; whole = record { known = positive (eqb-false _ _ (known .0)); fits = ltb-false _ _ (fits .0) }; lawful = lawful .0 }
-  where
-    positive : {n : ℕ} → (n ≡ 0 → ⊥) → 0 < n
-    positive f = omega arith
+    record {
+      basis = basis .0;
+      kind = kind .0;
+      whole = record { known = known-kind (b .version) (kindAt s) (kind .0); fits = ltb-false _ _ (fits .0) };
+      lawful = lawful .0;
+    }
 
 -- the radius and the width of a lawful record are one byte each
 one-byte-shape : (s : Shape) → shapeRefusal s ≡ 0 → OneByte s
@@ -58,8 +62,7 @@ pub record Headed (tests : List (Bool × ℕ)) (s : List ℕ) : Type 0 where
   pub most : length s ≤ listMost
   pub least : headerSize ≤ length s
   pub marked : hasMark s ≡ true
-  pub versioned : wordAt s 3 ≡ version
-  pub size : sizeRefusal (headerAt s .w) (headerAt s .h) ≡ 0
+  pub basis : basisRefusal (basisOf (headerAt s)) ≡ 0
   pub passed : first tests ≡ 0
 
 pub headed : (tests : List (Bool × ℕ)) (s : List ℕ) → headerRefusal tests s ≡ 0 → Headed tests s
@@ -68,33 +71,30 @@ headed tests s e =
     let most = clear (ltb listMost (length s)) 11 _ e in
     let least = clear (ltb (length s) headerSize) 4 _ (most .1) in
     let marked = clear (not (hasMark s)) 0 _ (least .1) in
-    let versioned = clear (not (eqb (wordAt s 3) version)) 1 _ (marked .1) in
-    let size = tried-clear (sizeRefusal (headerAt s .w) (headerAt s .h)) _ (versioned .1) in
+    let basis = tried-clear (basisRefusal (basisOf (headerAt s))) _ (marked .1) in
     record {
       most = ltb-false _ _ (most .0);
       least = ltb-false _ _ (least .0);
       marked = not-false _ (marked .0);
-      versioned = eqb-true _ _ (not-false _ (versioned .0));
-      size = size .0;
-      passed = size .1;
+      basis = basis .0;
+      passed = basis .1;
     }
 
 -- the tests are tried behind the rest
 pub header-then : (tests : List (Bool × ℕ)) (s : List ℕ) → headerRefusal tests s ≡ cond (ltb 0 (headerRefusal [] s)) (headerRefusal [] s) (first tests)
 unfolding headerRefusal
 header-then tests s =
-    go (ltb listMost (length s)) (ltb (length s) headerSize) (not (hasMark s)) (not (eqb (wordAt s 3) version)) (sizeRefusal (headerAt s .w) (headerAt s .h))
+    go (ltb listMost (length s)) (ltb (length s) headerSize) (not (hasMark s)) (basisRefusal (basisOf (headerAt s)))
   where
-    cases : ℕ → Bool → Bool → Bool → Bool → ℕ → ℕ
-    cases last a b c d f = cond a 12 (cond b 5 (cond c 1 (cond d 2 (cond (ltb 0 f) f last))))
+    cases : ℕ → Bool → Bool → Bool → ℕ → ℕ
+    cases last a b c f = cond a 12 (cond b 5 (cond c 1 (cond (ltb 0 f) f last)))
 
-    go : (a b c d : Bool) (f : ℕ) → cases (first tests) a b c d f ≡ cond (ltb 0 (cases 0 a b c d f)) (cases 0 a b c d f) (first tests)
-    go true b c d f = refl
-    go false true c d f = refl
-    go false false true d f = refl
-    go false false false true f = refl
-    go false false false false zero = refl
-    go false false false false (suc f) = rw (lt-ltb 0 (suc f) (omega arith), lt-ltb 0 (suc f) (omega arith))
+    go : (a b c : Bool) (f : ℕ) → cases (first tests) a b c f ≡ cond (ltb 0 (cases 0 a b c f)) (cases 0 a b c f) (first tests)
+    go true b c f = refl
+    go false true c f = refl
+    go false false true f = refl
+    go false false false zero = refl
+    go false false false (suc f) = rw (lt-ltb 0 (suc f) (omega arith), lt-ltb 0 (suc f) (omega arith))
 
 -- the two places where a list's header is refused, and a header that is not
 module _ (tests : List (Bool × ℕ)) (s : List ℕ) {f : ℕ} where

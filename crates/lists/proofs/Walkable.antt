@@ -25,7 +25,7 @@ unfolding recordsIn
 walkable tests s rs e =
     let d = headed tests s (list-headed tests s rs e) in
     let k = records-are tests s rs e in
-    record { page = d .size; least = d .least; most = d .most; is = k ∙ ap accepted (sym (ap recordsIn k)) }
+    record { basis = d .basis; least = d .least; most = d .most; is = k ∙ ap accepted (sym (ap recordsIn k)) }
 
 -- ---- a list that the check accepts, whatever the tests were
 

@@ -1,6 +1,6 @@
 -- The header and the records of an accepted list, written again one after the other, give its own bytes.
 use mathlib.Core.Path.{_≡_, refl, sym, _∙_, ap, ap₂, subst}
-use mathlib.Core.Bool.{Bool, _&&_}
+use mathlib.Core.Bool.{Bool, false, _&&_}
 use mathlib.Core.List.{List, [], _∷_, _++_, append-assoc, append-nil}
 use Prim.Native.Nat.{ℕ, zero, suc, _+_, _≤_, _<_}
 use native.Mathlib.Nat.{zero-add}
@@ -10,17 +10,17 @@ use lib.ListN.{length, getD, take, drop, length-append, length-drop, take-append
 use lib.Seq.{take-at, drop-append-add, drop-drop, drop-length, getD-drop, length-take-le, take-all}
 use Rattle.numbers.specs.Coordinate.{bitsOf, signedOf, wordOf, bytesOf}
 use Rattle.numbers.proofs.Coordinate.{bits-signed, bytes-word}
-use Rattle.shapes.specs.Limits.{sized}
 use Rattle.numbers.proofs.Order.{both-true}
+use Rattle.shapes.specs.declared.Basis.{Basis}
 use Rattle.shapes.specs.declared.Record.{Record}
-use Rattle.lists.specs.Format.{listMost, headerSize, kindSize, kindOf, fieldsOf, headerBytes, recordBytes, wordAt, headerAt, kindAt, sizeAt, decoded, recordAt}
+use Rattle.lists.specs.Format.{listMost, headerSize, basisOf, kindSize, offKind, kindOf, fieldsOf, headerBytes, recordBytes, headerAt, kindAt, sizeAt, decoded, recordAt}
 use Rattle.lists.specs.inner.Record.{Whole}
 use Rattle.lists.specs.Read.{readRefusal}
-use Rattle.lists.specs.Write.{putAt, recordWritten, recordList, recordsList, listWritten, recordsWritten, writerAnswer}
+use Rattle.lists.specs.Write.{putAt, writtenAs, recordWritten, recordList, recordsList, heldBy, listWritten, recordsWritten, writerAnswer}
 use Rattle.lists.specs.List.{markAt, accepted, recordsOf}
-use Rattle.lists.proofs.Refusals.{readable, Headed, headed}
+use Rattle.lists.proofs.Refusals.{Readable, readable, Headed, headed}
 use Rattle.lists.specs.declared.write.Written.{Written}
-use Rattle.lists.proofs.Bytes.{unknown-kind}
+use Rattle.lists.proofs.Bytes.{unknown-kind, kind-found}
 use Rattle.lists.proofs.Writes.{put-length, header-done, header-none, record-done, refusal-none}
 use Rattle.lists.proofs.Accepted.{Holds, last, more, list-headed, list-holds}
 
@@ -70,7 +70,8 @@ module _ (s : List ℕ) (b : AllBytes s) where
   kind-again (suc (suc (suc (suc zero)))) h e = front e (coordinate-then (b 1) (b 2) (coordinate-then (b 3) (b 4) (coordinate-then (b 5) (b 6) (coordinate-then (b 7) (b 8) refl))))
   kind-again (suc (suc (suc (suc (suc zero))))) h e = front e (coordinate-then (b 1) (b 2) (coordinate-then (b 3) (b 4) refl))
   kind-again (suc (suc (suc (suc (suc (suc zero)))))) h e = front e (coordinate-then (b 1) (b 2) (coordinate-then (b 3) (b 4) refl))
-  kind-again (suc (suc (suc (suc (suc (suc (suc k))))))) h e = absurd (let z = unknown-kind (suc (suc (suc (suc (suc (suc (suc k))))))) (omega arith) in omega arith)
+  kind-again (suc (suc (suc (suc (suc (suc (suc zero))))))) h e = front e refl
+  kind-again (suc (suc (suc (suc (suc (suc (suc (suc k)))))))) h e = absurd (let z = unknown-kind (suc (suc (suc (suc (suc (suc (suc (suc k)))))))) (omega arith) in omega arith)
 
   pub record-again : Whole s → recordBytes (recordAt s) ≡ take (sizeAt s) s
   record-again p = kind-again (kindAt s) (p .known) refl ∙ sym (take-firsts (sizeAt s) s (p .fits))
@@ -81,8 +82,7 @@ module _ (s : List ℕ) (b : AllBytes s) where
       let first = both-true (markAt s 0 && markAt s 1) (markAt s 2) (p .marked) in
       let second = both-true (markAt s 0) (markAt s 1) (first .0) in
       front (eqb-true _ _ (second .0)) (front (eqb-true _ _ (second .1)) (front (eqb-true _ _ (first .1))
-      (ap (λ (v : ℕ). bytesOf v ++ bytesOf (wordAt s 5) ++ bytesOf (wordAt s 7) ++ getD s 9 0 ∷ []) (sym (p .versioned))
-      ∙ word-then (b 3) (word-then (b 5) (word-then (b 7) refl)))))
+      (word-then (b 3) (word-then (b 5) (word-then (b 7) refl)))))
       ∙ sym (take-firsts headerSize s (p .least))
 
 -- ---- bytes put into a list, one run behind the other
@@ -100,104 +100,107 @@ put-put l place bs cs h =
     ∙ ap₂ (λ (x : List ℕ) (k : ℕ). x ++ drop k l) (append-assoc (take place l) bs cs) next
 
 -- ---- the records, one after the other
-module _ (w h : ℕ) (s : List ℕ) (none : readRefusal (sized w h) s ≡ 0) (b : AllBytes s) (m : List ℕ) (place : ℕ) (low : headerSize ≤ place)
+module _ (b : Basis) (s : List ℕ) (none : readRefusal b s ≡ 0) (bytes : AllBytes s) (m : List ℕ) (place : ℕ) (low : headerSize ≤ place)
     (inside : place + sizeAt s ≤ length m) (most : place + sizeAt s ≤ listMost) where
+  found : Readable b s
+  found = readable b s none
+
   long : length (recordBytes (recordAt s)) ≡ sizeAt s
-  long =
-      let p = readable (sized w h) s none .whole in
-      ap length (record-again s b p) ∙ length-take-le (sizeAt s) s (p .fits)
+  long = ap length (record-again s bytes (found .whole)) ∙ length-take-le (sizeAt s) s (found .whole .fits)
 
-  done : (record { refusal = 0; place = place + length (recordBytes (recordAt s)); w = w; h = h } ≡ recordWritten m place w h (recordAt s))
-      × (putAt place (recordBytes (recordAt s)) m ≡ recordList m place w h (recordAt s))
+  -- the writer tries the kind that the reader found
+  kind-kept : offKind (b .version) (kindOf (recordAt s)) ≡ false
+  kind-kept = ap (offKind (b .version)) (kind-found (kindAt s) s (found .whole .known)) ∙ found .kind
+
+  done : (writtenAs 0 (place + length (recordBytes (recordAt s))) b ≡ recordWritten m place b (recordAt s))
+      × (putAt place (recordBytes (recordAt s)) m ≡ recordList m place b (recordAt s))
   done =
-      let p = readable (sized w h) s none in
       let n = long in
-      record-done m place w h (recordAt s)
-      (refusal-none (length m) place (sized w h) (recordAt s)
-      (record { page = p .page; lawful = p .lawful; room = record { behind = low; inside = omega arith; most = omega arith } }))
+      record-done m place b (recordAt s)
+      (refusal-none (length m) place b (recordAt s)
+      (record { basis = found .basis; kind = kind-kept; lawful = found .lawful; room = record { behind = low; inside = omega arith; most = omega arith } }))
 
-  step-list : recordList m place w h (recordAt s) ≡ putAt place (take (sizeAt s) s) m
-  step-list = sym (done .1) ∙ ap (λ (bs : List ℕ). putAt place bs m) (record-again s b (readable (sized w h) s none .whole))
+  step-list : recordList m place b (recordAt s) ≡ putAt place (take (sizeAt s) s) m
+  step-list = sym (done .1) ∙ ap (λ (bs : List ℕ). putAt place bs m) (record-again s bytes (found .whole))
 
-  step-place : recordWritten m place w h (recordAt s) .place ≡ place + sizeAt s
+  step-place : recordWritten m place b (recordAt s) .place ≡ place + sizeAt s
   step-place = ap (λ (r : Written). r .place) (sym (done .0)) ∙ ap (λ (n : ℕ). place + n) long
 
 -- one record, then the rest behind it: put (take n s), then put (drop n s), is put s
-records-again : {w h : ℕ} {s : List ℕ} {rs : List Record} → Holds (sized w h) s rs → AllBytes s → (m : List ℕ) (place : ℕ) → headerSize ≤ place
-    → place + length s ≤ length m → place + length s ≤ listMost → recordsList m place w h rs ≡ putAt place s m
+records-again : {b : Basis} {s : List ℕ} {rs : List Record} → Holds b s rs → AllBytes s → (m : List ℕ) (place : ℕ) → headerSize ≤ place
+    → place + length s ≤ length m → place + length s ≤ listMost → recordsList m place b rs ≡ putAt place s m
 unfolding recordsList
-records-again {w} {h} (last {s} none k all) b m place low inside most =
-    step-list w h s none b m place low (omega arith) (omega arith)
+records-again {b} (last {s} none k all) bytes m place low inside most =
+    step-list b s none bytes m place low (omega arith) (omega arith)
     ∙ ap (λ (bs : List ℕ). putAt place bs m) (take-all (sizeAt s) s (omega arith))
-records-again {w} {h} (more {s} {rs} none k p) b m place low inside most =
-    let fits = readable (sized w h) s none .whole .fits in
+records-again {b} (more {s} {rs} none k p) bytes m place low inside most =
+    let fits = readable b s none .whole .fits in
     let n = length-take-le (sizeAt s) s fits in
     let d = length-drop (sizeAt s) s in
     let same = put-length m place (take (sizeAt s) s) (omega arith) in
-    ap₂ (λ (l : List ℕ) (i : ℕ). recordsList l i w h rs)
-    (step-list w h s none b m place low (omega arith) (omega arith))
-    (step-place w h s none b m place low (omega arith) (omega arith) ∙ ap (λ (i : ℕ). place + i) (sym n))
-    ∙ records-again p (drop-bytes (sizeAt s) s b) (putAt place (take (sizeAt s) s) m) (place + length (take (sizeAt s) s)) (omega arith) (omega arith) (omega arith)
+    ap₂ (λ (l : List ℕ) (i : ℕ). recordsList l i b rs)
+    (step-list b s none bytes m place low (omega arith) (omega arith))
+    (step-place b s none bytes m place low (omega arith) (omega arith) ∙ ap (λ (i : ℕ). place + i) (sym n))
+    ∙ records-again p (drop-bytes (sizeAt s) s bytes) (putAt place (take (sizeAt s) s) m) (place + length (take (sizeAt s) s)) (omega arith) (omega arith) (omega arith)
     ∙ put-put m place (take (sizeAt s) s) (drop (sizeAt s) s) (omega arith)
     ∙ ap (λ (bs : List ℕ). putAt place bs m) (take-append-drop (sizeAt s) s)
 
 -- no write is refused, and the place moves past each record
-answers-again : {w h : ℕ} {s : List ℕ} {rs : List Record} → Holds (sized w h) s rs → AllBytes s → (m : List ℕ) (place : ℕ) → headerSize ≤ place
+answers-again : {b : Basis} {s : List ℕ} {rs : List Record} → Holds b s rs → AllBytes s → (m : List ℕ) (place : ℕ) → headerSize ≤ place
     → place + length s ≤ length m → place + length s ≤ listMost
-    → recordsWritten m place w h rs ≡ record { refusal = 0; place = place + length s; w = w; h = h }
+    → recordsWritten m place b rs ≡ writtenAs 0 (place + length s) b
 unfolding recordsWritten
-answers-again {w} {h} (last {s} none k all) b m place low inside most =
-    let a = done w h s none b m place low (omega arith) (omega arith) .0 in
-    let n = long w h s none b m place low (omega arith) (omega arith) in
-    rw (← a) (λ i. record { refusal = 0; place = place + (n ∙ sym all) i; w = w; h = h })
-answers-again {w} {h} (more {s} {rs} none k p) b m place low inside most =
-    let fits = readable (sized w h) s none .whole .fits in
+answers-again {b} (last {s} none k all) bytes m place low inside most =
+    let a = done b s none bytes m place low (omega arith) (omega arith) .0 in
+    let n = long b s none bytes m place low (omega arith) (omega arith) in
+    rw (← a) (λ i. writtenAs 0 (place + (n ∙ sym all) i) b)
+answers-again {b} (more {s} {rs} none k p) bytes m place low inside most =
+    let fits = readable b s none .whole .fits in
     let d = length-drop (sizeAt s) s in
-    let a = done w h s none b m place low (omega arith) (omega arith) .0 in
-    let n = long w h s none b m place low (omega arith) (omega arith) in
-    let e = step-list w h s none b m place low (omega arith) (omega arith) in
+    let a = done b s none bytes m place low (omega arith) (omega arith) .0 in
+    let n = long b s none bytes m place low (omega arith) (omega arith) in
+    let e = step-list b s none bytes m place low (omega arith) (omega arith) in
     let same = put-length m place (take (sizeAt s) s) (omega (arith, length-take-le (sizeAt s) s fits)) in
     let all : place + sizeAt s + length (drop (sizeAt s) s) ≡ place + length s = omega arith in
     rw (← a, n, e)
-    (answers-again p (drop-bytes (sizeAt s) s b) (putAt place (take (sizeAt s) s) m) (place + sizeAt s) (omega arith) (omega arith) (omega arith)
-    ∙ (λ i. record { refusal = 0; place = all i; w = w; h = h }))
+    (answers-again p (drop-bytes (sizeAt s) s bytes) (putAt place (take (sizeAt s) s) m) (place + sizeAt s) (omega arith) (omega arith) (omega arith)
+    ∙ (λ i. writtenAs 0 (all i) b))
 
 -- ---- a whole list
-module _ (tests : List (Bool × ℕ)) (l : List ℕ) (rs : List Record) (b : AllBytes l) (e : recordsOf tests l ≡ accepted rs) (m : List ℕ) (place w h : ℕ) where
-  -- written into a list that is as long at least, from any place and with any W and H held:
+module _ (tests : List (Bool × ℕ)) (l : List ℕ) (rs : List Record) (bytes : AllBytes l) (e : recordsOf tests l ≡ accepted rs) (m : List ℕ) (place : ℕ) (b : Basis) where
+  -- written into a list that is as long at least, from any place and with any basis held, in its own version:
   -- the header at 0, the records behind it, and take ++ drop is the whole
-  pub written-again : length l ≤ length m → listWritten m place w h (headerAt l) rs ≡ l ++ drop (length l) m
+  pub written-again : length l ≤ length m → listWritten m place b (headerAt l) rs ≡ l ++ drop (length l) m
   unfolding listWritten
   written-again fits =
       let p = headed tests l (list-headed tests l rs e) in
-      let done = header-done m place w h (headerAt l) (header-none (length m) (headerAt l) (p .size) (omega (arith, p .least))) in
+      let done = header-done m place b (headerAt l) (header-none (length m) (headerAt l) (p .basis) (omega (arith, p .least))) in
       let front : headerSize ≡ 0 + length (take headerSize l) = omega (arith, length-take-le headerSize l (p .least)) in
       let rest = length-drop headerSize l in
       let same = put-length m 0 (take headerSize l) (omega (arith, p .least)) in
-      ap₂ (λ (x : List ℕ) (r : Written). recordsList x (r .place) (r .w) (r .h) rs)
-      (sym (done .1) ∙ ap (λ (bs : List ℕ). putAt 0 bs m) (header-again l b p))
+      ap₂ (λ (x : List ℕ) (r : Written). recordsList x (r .place) (heldBy r) rs)
+      (sym (done .1) ∙ ap (λ (bs : List ℕ). putAt 0 bs m) (header-again l bytes p))
       (sym (done .0))
-      ∙ records-again (list-holds tests l rs e) (drop-bytes headerSize l b) (putAt 0 (take headerSize l) m) headerSize (omega arith) (omega (arith, p .least)) (omega (arith, p .least, p .most))
+      ∙ records-again (list-holds tests l rs e) (drop-bytes headerSize l bytes) (putAt 0 (take headerSize l) m) headerSize (omega arith) (omega (arith, p .least)) (omega (arith, p .least, p .most))
       ∙ ap (λ (k : ℕ). putAt k (drop headerSize l) (putAt 0 (take headerSize l) m)) front
       ∙ put-put m 0 (take headerSize l) (drop headerSize l) (omega (arith, p .least))
       ∙ ap (λ (bs : List ℕ). putAt 0 bs m) (take-append-drop headerSize l)
       ∙ ap (λ (k : ℕ). l ++ drop k m) (zero-add (length l))
 
   -- written into a list of its own length
-  pub own-bytes : length m ≡ length l → listWritten m place w h (headerAt l) rs ≡ l
+  pub own-bytes : length m ≡ length l → listWritten m place b (headerAt l) rs ≡ l
   own-bytes same =
       written-again (omega arith) ∙ ap (λ (bs : List ℕ). l ++ bs) (ap (λ (k : ℕ). drop k m) (sym same) ∙ drop-length m) ∙ append-nil l
 
-  -- no write is refused, and the place ends behind the list
-  pub answered-again : length l ≤ length m
-      → writerAnswer m place w h (headerAt l) rs ≡ record { refusal = 0; place = length l; w = headerAt l .w; h = headerAt l .h }
+  -- no write is refused, the place ends behind the list, and its own version, W and H are held
+  pub answered-again : length l ≤ length m → writerAnswer m place b (headerAt l) rs ≡ writtenAs 0 (length l) (basisOf (headerAt l))
   unfolding writerAnswer
   answered-again fits =
       let p = headed tests l (list-headed tests l rs e) in
-      let done = header-done m place w h (headerAt l) (header-none (length m) (headerAt l) (p .size) (omega (arith, p .least))) in
+      let done = header-done m place b (headerAt l) (header-none (length m) (headerAt l) (p .basis) (omega (arith, p .least))) in
       let rest = length-drop headerSize l in
       let same = put-length m 0 (take headerSize l) (omega (arith, p .least, length-take-le headerSize l (p .least))) in
       let all : headerSize + length (drop headerSize l) ≡ length l = omega (arith, p .least) in
-      rw (← done .0, ← done .1, header-again l b p)
-      (answers-again (list-holds tests l rs e) (drop-bytes headerSize l b) (putAt 0 (take headerSize l) m) headerSize (omega arith) (omega arith) (omega (arith, p .most))
-      ∙ (λ i. record { refusal = 0; place = all i; w = headerAt l .w; h = headerAt l .h }))
+      rw (← done .0, ← done .1, header-again l bytes p)
+      (answers-again (list-holds tests l rs e) (drop-bytes headerSize l bytes) (putAt 0 (take headerSize l) m) headerSize (omega arith) (omega arith) (omega (arith, p .most))
+      ∙ (λ i. writtenAs 0 (all i) (basisOf (headerAt l))))

@@ -10,38 +10,33 @@ use lib.Dec.{ltb}
 use lib.ListN.{length, take, drop, length-append, length-drop}
 use lib.Seq.{length-take-le}
 use Rattle.numbers.proofs.Order.{lt-or-le}
-use Rattle.shapes.specs.Limits.{sized, sizeRefusal, recordRefusal}
+use Rattle.shapes.specs.Limits.{basisRefusal, recordRefusal}
 use Rattle.shapes.specs.declared.Basis.{Basis}
 use Rattle.shapes.specs.declared.Record.{Record}
-use Rattle.lists.specs.Format.{listMost, headerSize, headerBytes, recordBytes}
-use Rattle.lists.specs.Write.{putAt, tooFew, headerWriteRefusal, recordWriteRefusal, headerWritten, headerList, recordWritten, recordList}
+use Rattle.lists.specs.Format.{listMost, headerSize, basisOf, offKind, kindOf, headerBytes, recordBytes}
+use Rattle.lists.specs.Write.{putAt, tooFew, headerWriteRefusal, recordWriteRefusal, writtenAs, headerWritten, headerList, recordWritten, recordList}
 use Rattle.lists.specs.declared.format.Header.{Header}
 use Rattle.lists.specs.declared.write.Written.{Written}
 use Rattle.shapes.proofs.Limits.{clear, tried-clear, or-clear}
 
-module _ (l : List ℕ) (place w h : ℕ) where
-  -- what both functions answer on a refusal
-  abbrev pub unmoved : ℕ → Written
-  unmoved f = record { refusal = f; place = place; w = w; h = h }
-
+module _ (l : List ℕ) (place : ℕ) (b : Basis) where
   module _ (d : Header) {f : ℕ} (e : headerWriteRefusal (length l) d ≡ f) where
-    pub header-refused : 0 < f → (unmoved f ≡ headerWritten l place w h d) × (l ≡ headerList l d)
+    pub header-refused : 0 < f → (writtenAs f place b ≡ headerWritten l place b d) × (l ≡ headerList l d)
     unfolding headerWritten headerList
     header-refused k = rw (e, lt-ltb 0 f k) (refl, refl)
 
   pub header-done : (d : Header) → headerWriteRefusal (length l) d ≡ 0
-      → (record { refusal = 0; place = headerSize; w = d .w; h = d .h } ≡ headerWritten l place w h d) × (putAt 0 (headerBytes d) l ≡ headerList l d)
+      → (writtenAs 0 headerSize (basisOf d) ≡ headerWritten l place b d) × (putAt 0 (headerBytes d) l ≡ headerList l d)
   unfolding headerWritten headerList
   header-done d e = rw e (refl, refl)
 
-  module _ (r : Record) {f : ℕ} (e : recordWriteRefusal (length l) place (sized w h) r ≡ f) where
-    pub record-refused : 0 < f → (unmoved f ≡ recordWritten l place w h r) × (l ≡ recordList l place w h r)
+  module _ (r : Record) {f : ℕ} (e : recordWriteRefusal (length l) place b r ≡ f) where
+    pub record-refused : 0 < f → (writtenAs f place b ≡ recordWritten l place b r) × (l ≡ recordList l place b r)
     unfolding recordWritten recordList
     record-refused k = rw (e, lt-ltb 0 f k) (refl, refl)
 
-  pub record-done : (r : Record) → recordWriteRefusal (length l) place (sized w h) r ≡ 0
-      → (record { refusal = 0; place = place + length (recordBytes r); w = w; h = h } ≡ recordWritten l place w h r)
-      × (putAt place (recordBytes r) l ≡ recordList l place w h r)
+  pub record-done : (r : Record) → recordWriteRefusal (length l) place b r ≡ 0
+      → (writtenAs 0 (place + length (recordBytes r)) b ≡ recordWritten l place b r) × (putAt place (recordBytes r) l ≡ recordList l place b r)
   unfolding recordWritten recordList
   record-done r e = rw e (refl, refl)
 
@@ -59,24 +54,26 @@ room n place size e =
 
 -- ---- a record that is written
 pub record Writable (n place : ℕ) (b : Basis) (r : Record) : Type 0 where
-  pub page : sizeRefusal (b .w) (b .h) ≡ 0
+  pub basis : basisRefusal b ≡ 0
+  pub kind : offKind (b .version) (kindOf r) ≡ false
   pub lawful : recordRefusal b r ≡ 0
   pub room : Room n place (length (recordBytes r))
 
 pub writable : (n place : ℕ) (b : Basis) (r : Record) → recordWriteRefusal n place b r ≡ 0 → Writable n place b r
 unfolding recordWriteRefusal
 writable n place b r e =
-    let page = tried-clear (sizeRefusal (b .w) (b .h)) _ e in
-    let lawful = tried-clear (recordRefusal b r) _ (page .1) in
+    let basis = tried-clear (basisRefusal b) _ e in
+    let kind = clear (offKind (b .version) (kindOf r)) 3 _ (basis .1) in
+    let lawful = tried-clear (recordRefusal b r) _ (kind .1) in
     let last = clear (ltb place headerSize || tooFew n (place + length (recordBytes r))) 21 0 (lawful .1) in
-    record { page = page .0; lawful = lawful .0; room = room n place (length (recordBytes r)) (last .0) }
+    record { basis = basis .0; kind = kind .0; lawful = lawful .0; room = room n place (length (recordBytes r)) (last .0) }
 
 -- a refusal of 0 says that nothing was refused
-pub written-refusal : (l : List ℕ) (place w h : ℕ) (r : Record) → recordWritten l place w h r .refusal ≡ 0 → recordWriteRefusal (length l) place (sized w h) r ≡ 0
+pub written-refusal : (l : List ℕ) (place : ℕ) (b : Basis) (r : Record) → recordWritten l place b r .refusal ≡ 0 → recordWriteRefusal (length l) place b r ≡ 0
 unfolding recordWritten
-written-refusal l place w h r e = go (recordWriteRefusal (length l) place (sized w h) r) e
+written-refusal l place b r e = go (recordWriteRefusal (length l) place b r) e
   where
-    go : (f : ℕ) → cond (ltb 0 f) (unmoved l place w h f) (record { refusal = 0; place = place + length (recordBytes r); w = w; h = h }) .refusal ≡ 0 → f ≡ 0
+    go : (f : ℕ) → cond (ltb 0 f) (writtenAs f place b) (writtenAs 0 (place + length (recordBytes r)) b) .refusal ≡ 0 → f ≡ 0
     go zero k = refl
     go (suc f) k = rw (lt-ltb 0 (suc f) (omega arith)) at k
 
@@ -84,18 +81,18 @@ written-refusal l place w h r e = go (recordWriteRefusal (length l) place (sized
 pub refusal-none : (n place : ℕ) (b : Basis) (r : Record) → Writable n place b r → recordWriteRefusal n place b r ≡ 0
 unfolding recordWriteRefusal
 refusal-none n place b r p =
-    simp (p .page, p .lawful, le-ltb place headerSize (p .room .behind), le-ltb (min n listMost) (place + length (recordBytes r)) (omega (arith, p .room .inside, p .room .most)))
+    simp (p .basis, p .kind, p .lawful, le-ltb place headerSize (p .room .behind), le-ltb (min n listMost) (place + length (recordBytes r)) (omega (arith, p .room .inside, p .room .most)))
 
 pub header-room : (n : ℕ) (d : Header) → headerWriteRefusal n d ≡ 0 → headerSize ≤ n
 unfolding headerWriteRefusal
 header-room n d e =
-    let size = tried-clear (sizeRefusal (d .w) (d .h)) _ e in
-    let k : headerSize ≤ min n listMost = ltb-false _ _ (clear (tooFew n headerSize) 21 0 (size .1) .0) in
+    let basis = tried-clear (basisRefusal (basisOf d)) _ e in
+    let k : headerSize ≤ min n listMost = ltb-false _ _ (clear (tooFew n headerSize) 21 0 (basis .1) .0) in
     omega arith
 
-pub header-none : (n : ℕ) (d : Header) → sizeRefusal (d .w) (d .h) ≡ 0 → headerSize ≤ n → headerWriteRefusal n d ≡ 0
+pub header-none : (n : ℕ) (d : Header) → basisRefusal (basisOf d) ≡ 0 → headerSize ≤ n → headerWriteRefusal n d ≡ 0
 unfolding headerWriteRefusal
-header-none n d size long = simp (size, le-ltb (min n listMost) headerSize (omega arith))
+header-none n d basis long = simp (basis, le-ltb (min n listMost) headerSize (omega arith))
 
 -- ---- a write leaves the list as long as it is
 -- |take place l| + |bs| + |drop (place + |bs|) l| = |l|
@@ -112,17 +109,17 @@ unfolding headerBytes
 header-length l d = go (lt-or-le 0 (headerWriteRefusal (length l) d))
   where
     go : (0 < headerWriteRefusal (length l) d) ⊎ (headerWriteRefusal (length l) d ≤ 0) → length (headerList l d) ≡ length l
-    go (inl h) = ap length (sym (header-refused l 0 0 0 d refl h .1))
+    go (inl h) = ap length (sym (header-refused l 0 (basisOf d) d refl h .1))
     go (inr h) =
         let none : headerWriteRefusal (length l) d ≡ 0 = omega arith in
         let long = header-room (length l) d none in
-        ap length (sym (header-done l 0 0 0 d none .1)) ∙ put-length l 0 (headerBytes d) (omega arith)
+        ap length (sym (header-done l 0 (basisOf d) d none .1)) ∙ put-length l 0 (headerBytes d) (omega arith)
 
-pub record-length : (l : List ℕ) (place w h : ℕ) (r : Record) → length (recordList l place w h r) ≡ length l
-record-length l place w h r = go (lt-or-le 0 (recordWriteRefusal (length l) place (sized w h) r))
+pub record-length : (l : List ℕ) (place : ℕ) (b : Basis) (r : Record) → length (recordList l place b r) ≡ length l
+record-length l place b r = go (lt-or-le 0 (recordWriteRefusal (length l) place b r))
   where
-    go : (0 < recordWriteRefusal (length l) place (sized w h) r) ⊎ (recordWriteRefusal (length l) place (sized w h) r ≤ 0) → length (recordList l place w h r) ≡ length l
-    go (inl k) = ap length (sym (record-refused l place w h r refl k .1))
+    go : (0 < recordWriteRefusal (length l) place b r) ⊎ (recordWriteRefusal (length l) place b r ≤ 0) → length (recordList l place b r) ≡ length l
+    go (inl k) = ap length (sym (record-refused l place b r refl k .1))
     go (inr k) =
-        let none : recordWriteRefusal (length l) place (sized w h) r ≡ 0 = omega arith in
-        ap length (sym (record-done l place w h r none .1)) ∙ put-length l place (recordBytes r) (writable (length l) place (sized w h) r none .room .inside)
+        let none : recordWriteRefusal (length l) place b r ≡ 0 = omega arith in
+        ap length (sym (record-done l place b r none .1)) ∙ put-length l place (recordBytes r) (writable (length l) place b r none .room .inside)

@@ -2,18 +2,18 @@
 use mathlib.Core.Bool.{Bool, true, false, cond}
 use mathlib.Core.List.{List, [], _∷_, _++_}
 use Prim.Native.Nat.{ℕ, _+_}
-use lib.Dec.{eqb}
+use lib.Dec.{ltb, eqb}
 use lib.IntN.{ℤ}
 use lib.ListN.{getD}
 use Rattle.numbers.specs.Coordinate.{bitsOf, signedOf, wordOf, bytesOf}
-use Rattle.shapes.specs.Limits.{sized}
+use Rattle.shapes.specs.Limits.{basisBy}
 use Rattle.shapes.specs.declared.Line.{Line}
 use Rattle.shapes.specs.declared.Disc.{Disc}
 use Rattle.shapes.specs.declared.Ring.{Ring}
 use Rattle.shapes.specs.declared.Shape.the-variants.{Line as line, Disc as disc, Ring as ring}
 use Rattle.shapes.specs.declared.Clip.{Clip}
 use Rattle.shapes.specs.declared.Basis.{Basis}
-use Rattle.shapes.specs.declared.Setting.the-variants.{Clip as clip, Level as level}
+use Rattle.shapes.specs.declared.Setting.the-variants.{Clip as clip, Level as level, Player as player}
 use Rattle.shapes.specs.declared.Record.{Record}
 use Rattle.shapes.specs.declared.Record.the-variants.{End as end, Setting as setting, Shape as shape}
 use Rattle.lists.specs.declared.format.Header.{Header}
@@ -36,11 +36,11 @@ abbrev pub coordinateAt : List ℕ → ℕ → ℤ
 coordinateAt s i = signedOf (wordAt s i)
 
 abbrev pub headerAt : List ℕ → Header
-headerAt s = record { w = wordAt s 5; h = wordAt s 7; background = getD s 9 0 }
+headerAt s = record { version = wordAt s 3; w = wordAt s 5; h = wordAt s 7; background = getD s 9 0 }
 
 -- what the records behind a header are read against
 abbrev pub basisOf : Header → Basis
-basisOf d = sized (d .w) (d .h)
+basisOf d = basisBy (d .version) (d .w) (d .h)
 
 abbrev pub clipAt : List ℕ → Clip
 clipAt s = record { x0 = wordAt s 1; y0 = wordAt s 3; x1 = wordAt s 5; y1 = wordAt s 7 }
@@ -75,6 +75,7 @@ kinds =
     ∷ kind 4 9 (λ s. shape (line (lineAt false s)))
     ∷ kind 5 6 (λ s. shape (disc (discAt s)))
     ∷ kind 6 7 (λ s. shape (ring (ringAt s)))
+    ∷ kind 7 2 (λ s. setting (player (getD s 1 0)))
     ∷ []
 
 -- the size and the record by the row of kind k; 0 and an end record where there is none
@@ -92,11 +93,20 @@ kindSize = sizeIn kinds
 unfoldable pub decoded : ℕ → List ℕ → Record
 decoded = foundIn kinds
 
+-- a version has the kinds from 0 to its last
+abbrev pub lastKind : ℕ → ℕ
+lastKind v = cond (eqb v 1) 6 7
+
+-- 4: a kind that version v does not have
+abbrev pub offKind : ℕ → ℕ → Bool
+offKind v k = ltb (lastKind v) k
+
 -- the kind of a record
 unfoldable pub kindOf : Record → ℕ
 kindOf end = 0
 kindOf (setting (clip c)) = 1
 kindOf (setting (level v)) = 2
+kindOf (setting (player p)) = 7
 kindOf (shape (line l)) = cond (l .exact) 3 4
 kindOf (shape (disc d)) = 5
 kindOf (shape (ring g)) = 6
@@ -116,9 +126,6 @@ recordAt s = decoded (kindAt s) s
 abbrev pub mark : List ℕ
 mark = 73 ∷ 78 ∷ 75 ∷ []
 
-abbrev pub version : ℕ
-version = 1
-
 -- some numbers of two bytes, unsigned and signed
 abbrev pub words : List ℕ → List ℕ
 words [] = []
@@ -129,12 +136,13 @@ coordinates [] = []
 coordinates (z ∷ zs) = bytesOf (bitsOf z) ++ coordinates zs
 
 unfoldable pub headerBytes : Header → List ℕ
-headerBytes d = mark ++ words (version ∷ d .w ∷ d .h ∷ []) ++ d .background ∷ []
+headerBytes d = mark ++ words (d .version ∷ d .w ∷ d .h ∷ []) ++ d .background ∷ []
 
 unfoldable pub fieldsOf : Record → List ℕ
 fieldsOf end = []
 fieldsOf (setting (clip c)) = words (c .x0 ∷ c .y0 ∷ c .x1 ∷ c .y1 ∷ [])
 fieldsOf (setting (level v)) = v ∷ []
+fieldsOf (setting (player p)) = p ∷ []
 fieldsOf (shape (line l)) = coordinates (l .x0 ∷ l .y0 ∷ l .x1 ∷ l .y1 ∷ [])
 fieldsOf (shape (disc d)) = coordinates (d .x ∷ d .y ∷ []) ++ d .radius ∷ []
 fieldsOf (shape (ring g)) = coordinates (g .x ∷ g .y ∷ []) ++ g .radius ∷ g .width ∷ []

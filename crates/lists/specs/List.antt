@@ -4,10 +4,10 @@ use mathlib.Core.List.{List, [], _∷_}
 use Prim.Native.Nat.{ℕ, zero, suc, _+_, _*_}
 use lib.Dec.{ltb, eqb}
 use lib.ListN.{length, getD, drop}
-use Rattle.shapes.specs.Limits.{first, tried, sizeRefusal}
+use Rattle.shapes.specs.Limits.{first, tried, basisRefusal}
 use Rattle.shapes.specs.declared.Basis.{Basis}
 use Rattle.shapes.specs.declared.Record.{Record}
-use Rattle.lists.specs.Format.{listMost, headerSize, mark, version, wordAt, headerAt, basisOf, kindAt, sizeAt, recordAt}
+use Rattle.lists.specs.Format.{listMost, headerSize, mark, headerAt, basisOf, kindAt, sizeAt, recordAt}
 use Rattle.lists.specs.Read.{readRefusal}
 use Rattle.lists.specs.declared.format.Header.{Header}
 use Rattle.lists.specs.declared.check.Checked.{Checked}
@@ -31,8 +31,7 @@ headerRefusal tests s =
     ((ltb listMost (length s), 12)
     ∷ (ltb (length s) headerSize, 5)
     ∷ (not (hasMark s), 1)
-    ∷ (not (eqb (wordAt s 3) version), 2)
-    ∷ tried (sizeRefusal (headerAt s .w) (headerAt s .h))
+    ∷ tried (basisRefusal (basisOf (headerAt s)))
     ∷ tests)
 
 -- the tests of a page of n bytes. 21: it has fewer than W·H
@@ -48,7 +47,7 @@ onto r (refused f place) = refused f place
 abbrev pub behindEnd : List ℕ → ℕ → Records
 behindEnd s place = cond (ltb 0 (length s)) (refused 6 place) (accepted [])
 
--- the records of the bytes s that begin at a place: 4, 5 and 7 to 11 of each record, at its first byte.
+-- the records of the bytes s that begin at a place: 4, 5, 7 to 11 and 31 of each record, at its first byte.
 -- A record has a byte at least, so that the fuel lasts if it is above the length.
 unfoldable pub recordsFrom : ℕ → Basis → List ℕ → ℕ → Records
 recordsFrom zero b s place = refused 5 place

@@ -1,22 +1,22 @@
--- "The reader of one record, told W and H": its refusals, the record, and the bytes that it hands back (R7.6, R8.5).
+-- "The reader of one record", told the version, W and H: its refusals, the record, and the bytes that it hands back (R7.6, R8.5).
 use mathlib.Core.Bool.{cond}
 use mathlib.Core.List.{List, [], _∷_}
 use Prim.Native.Nat.{ℕ}
 use lib.Dec.{ltb, eqb}
 use lib.ListN.{length, drop}
-use Rattle.shapes.specs.Limits.{first, tried, sizeRefusal, recordRefusal}
+use Rattle.shapes.specs.Limits.{first, tried, basisRefusal, recordRefusal}
 use Rattle.shapes.specs.declared.Basis.{Basis}
-use Rattle.lists.specs.Format.{sizeAt, recordAt}
+use Rattle.lists.specs.Format.{offKind, kindAt, sizeAt, recordAt}
 use Rattle.lists.specs.declared.read.Reading.{Reading}
 use Rattle.lists.specs.declared.read.Reading.the-variants.{Found, Refused}
 
--- 3; 5 where no byte is lent; 4; 5; then those of 7 to 11 that the kind has
+-- 2; 3; 5 where no byte is lent; 4; 5; then those of 7 to 11 and 31 that the kind has
 unfoldable pub readRefusal : Basis → List ℕ → ℕ
 readRefusal b s =
     first
-    (tried (sizeRefusal (b .w) (b .h))
+    (tried (basisRefusal b)
     ∷ (eqb (length s) 0, 5)
-    ∷ (eqb (sizeAt s) 0, 4)
+    ∷ (offKind (b .version) (kindAt s), 4)
     ∷ (ltb (length s) (sizeAt s), 5)
     ∷ tried (recordRefusal b (recordAt s))
     ∷ [])

@@ -3,18 +3,16 @@ ghost use mathlib.Core.Path.{_≡_};
 ghost use mathlib.Core.List.{[]};
 ghost use Prim.Native.Nat.{suc, _≤_};
 ghost use lib.ListN.{length, drop};
-ghost use Rattle.shapes.specs.Limits.{first};
+ghost use Rattle.shapes.specs.Limits.{first, basisRefusal};
 ghost use Rattle.lists.specs.Format.{headerSize, basisOf};
 ghost use Rattle.lists.specs.List.{hasMark, headerRefusal, pageTests, recordsFrom, checkedAs, checkedOf};
 use super::format::HEADER_SIZE;
 use super::format::Header;
 use super::format::LIST_MOST;
-use super::format::VERSION;
 use super::format::basis_of;
 use super::format::read_header;
-use super::format::word_at;
+use super::read::front_refusal;
 use super::read::next_place;
-use super::read::read_refusal;
 
 // What the check answers: the header of an accepted list, or the number of the refusal and its place.
 pub enum Checked {
@@ -59,22 +57,18 @@ fn header_refusal(list: &[u8]) -> u8
     if !has_mark(list) {
         return 1;
     }
-    if word_at(list, 3) != VERSION {
-        return 2;
-    }
-    let header = read_header(list);
-    shapes::size_refusal(header.w, header.h)
+    shapes::basis_refusal(basis_of(read_header(list)))
 }
 
 // Tries the records one after the other.
 fn check_records(list: &[u8], header: Header) -> Checked
-    requires { ⌜ headerSize ≤ length (now list) ⌝ }
+    requires { ⌜ (headerSize ≤ length (now list)) × (basisRefusal (basisOf header) ≡ 0) ⌝ }
     ensures { λ r. ⌜ r ≡ checkedAs header (recordsFrom (suc (length (now (list .entry)))) (basisOf header) (drop headerSize (now (list .entry))) headerSize) ⌝ }
 {
     let basis = basis_of(header);
     let mut place = HEADER_SIZE;
     loop {
-        let refusal = read_refusal(&list[place..], basis);
+        let refusal = front_refusal(&list[place..], basis);
         if 0 < refusal {
             return Checked::Refused { refusal, place };
         }

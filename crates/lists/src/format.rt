@@ -4,7 +4,7 @@ ghost use Prim.Native.Nat.{_+_, _≤_};
 ghost use lib.ListN.{length};
 ghost use mathlib.Core.Bool.{cond};
 ghost use mathlib.Core.List.{[], _∷_, _++_};
-ghost use Rattle.lists.specs.Format.{headerSize, kindSize, words, coordinates, headerBytes, recordBytes, wordAt, coordinateAt, headerAt, basisOf, clipAt, lineAt, discAt, ringAt, recordAt};
+ghost use Rattle.lists.specs.Format.{headerSize, kindSize, lastKind, kindOf, words, coordinates, headerBytes, recordBytes, wordAt, coordinateAt, headerAt, basisOf, clipAt, lineAt, discAt, ringAt, recordAt};
 ghost use Rattle.lists.specs.inner.Record.{Whole, padded, OneByte, OneByteRecord};
 use shapes::Basis;
 use shapes::Clip;
@@ -15,9 +15,6 @@ use shapes::Ring;
 use shapes::Setting;
 use shapes::Shape;
 
-// The version of the format.
-pub const VERSION: u16 = 1;
-
 // How many bytes a header has.
 pub const HEADER_SIZE: usize = 10;
 
@@ -27,8 +24,9 @@ pub const LIST_MOST: usize = 65536;
 // How many bytes the array of a record or a header has; each fits.
 pub(crate) const RECORD_MOST: usize = 13;
 
-// What a header tells: W, H and the background.
+// What a header tells: the version of the list, W, H and the background.
 pub struct Header {
+    pub version: u16,
     pub w: u16,
     pub h: u16,
     pub background: u8,
@@ -46,8 +44,16 @@ pub fn kind_size(kind: u8) -> usize
         4 => 9,
         5 => 6,
         6 => 7,
+        7 => 2,
         _ => 0,
     }
+}
+
+// The last kind that a version has.
+pub(crate) fn last_kind(version: u16) -> u8
+    ensures { λ r. ⌜ r ≡ lastKind version ⌝ }
+{
+    if version == 1 { 6 } else { 7 }
 }
 
 // The two bytes at a place, the low one first.
@@ -127,6 +133,7 @@ pub fn decode(list: &[u8]) -> Record
         4 => Record::Shape(Shape::Line(line_at(false, list))),
         5 => Record::Shape(Shape::Disc(disc_at(list))),
         6 => Record::Shape(Shape::Ring(ring_at(list))),
+        7 => Record::Setting(Setting::Player(list[1])),
         _ => Record::End,
     }
 }
@@ -137,6 +144,7 @@ pub(crate) fn read_header(list: &[u8]) -> Header
     ensures { λ r. ⌜ r ≡ headerAt (now (list .entry)) ⌝ }
 {
     Header {
+        version: word_at(list, 3),
         w: word_at(list, 5),
         h: word_at(list, 7),
         background: list[9],
@@ -148,6 +156,7 @@ pub fn basis_of(header: Header) -> Basis
     ensures { λ r. ⌜ r ≡ basisOf header ⌝ }
 {
     Basis {
+        version: header.version,
         w: header.w,
         h: header.h,
     }
@@ -209,6 +218,7 @@ fn setting_bytes(setting: Setting) -> [u8; RECORD_MOST]
     match setting {
         Setting::Clip(clip) => four_words(1, clip.x0, clip.y0, clip.x1, clip.y1),
         Setting::Level(level) => [2, level, 0, 0, 0, 0, 0, 0, 0, 0, 0, 0, 0],
+        Setting::Player(player) => [7, player, 0, 0, 0, 0, 0, 0, 0, 0, 0, 0, 0],
     }
 }
 
@@ -267,20 +277,43 @@ pub(crate) fn record_bytes(rec: Record) -> [u8; RECORD_MOST]
     }
 }
 
+// The kind of a shape and of a record.
+fn shape_kind(shape: Shape) -> u8
+    ensures { λ r. ⌜ r ≡ kindOf (Record.Shape shape) ⌝ }
+{
+    match shape {
+        Shape::Line(line) => line_kind(line.exact),
+        Shape::Disc(_) => 5,
+        Shape::Ring(_) => 6,
+    }
+}
+
+pub(crate) fn record_kind(rec: Record) -> u8
+    ensures { λ r. ⌜ r ≡ kindOf rec ⌝ }
+{
+    match rec {
+        Record::End => 0,
+        Record::Setting(setting) => match setting {
+            Setting::Clip(_) => 1,
+            Setting::Level(_) => 2,
+            Setting::Player(_) => 7,
+        },
+        Record::Shape(shape) => shape_kind(shape),
+    }
+}
+
 // How many bytes a record has.
 pub(crate) fn record_size(rec: Record) -> usize
-    requires { ⌜ OneByteRecord rec ⌝ }
     ensures { λ r. ⌜ r ≡ length (recordBytes rec) ⌝ }
 {
-    let bytes = record_bytes(rec);
-    kind_size(bytes[0])
+    kind_size(record_kind(rec))
 }
 
 // The bytes of a header, zeros behind them.
 pub(crate) fn header_bytes(header: Header) -> [u8; RECORD_MOST]
     ensures { λ r. ⌜ r ≡ padded (headerBytes header) ⌝ }
 {
-    let v = numbers::word_bytes(VERSION);
+    let v = numbers::word_bytes(header.version);
     let w = numbers::word_bytes(header.w);
     let h = numbers::word_bytes(header.h);
     [

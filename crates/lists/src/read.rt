@@ -2,11 +2,13 @@
 ghost use mathlib.Core.Path.{_≡_};
 ghost use Prim.Native.Nat.{_+_, _≤_};
 ghost use lib.ListN.{length, getD, drop};
+ghost use Rattle.shapes.specs.Limits.{basisRefusal};
 ghost use Rattle.lists.specs.Format.{kindSize, sizeAt};
 ghost use Rattle.lists.specs.inner.Record.{Whole};
 ghost use Rattle.lists.specs.Read.{readRefusal, readingOf, pastRecord};
 use super::format::decode;
 use super::format::kind_size;
+use super::format::last_kind;
 use shapes::Basis;
 use shapes::Record;
 
@@ -16,25 +18,33 @@ pub enum Reading {
     Refused(u8),
 }
 
-// The first refusal of the record at the front, or 0.
-pub(crate) fn read_refusal(list: &[u8], basis: Basis) -> u8
+// The first refusal of the record at the front, or 0, where the basis has none: a walk over a list tries its basis once.
+pub(crate) fn front_refusal(list: &[u8], basis: Basis) -> u8
+    requires { ⌜ basisRefusal basis ≡ 0 ⌝ }
     ensures { λ r. ⌜ r ≡ readRefusal basis (now (list .entry)) ⌝ }
 {
-    let page = shapes::size_refusal(basis.w, basis.h);
-    if 0 < page {
-        return page;
-    }
     if list.len() == 0 {
         return 5;
     }
-    let size = kind_size(list[0]);
-    if size == 0 {
+    let kind = list[0];
+    if last_kind(basis.version) < kind {
         return 4;
     }
-    if list.len() < size {
+    if list.len() < kind_size(kind) {
         return 5;
     }
     shapes::record_refusal(basis, decode(list))
+}
+
+// The first refusal of the record at the front, or 0.
+fn read_refusal(list: &[u8], basis: Basis) -> u8
+    ensures { λ r. ⌜ r ≡ readRefusal basis (now (list .entry)) ⌝ }
+{
+    let refusal = shapes::basis_refusal(basis);
+    if 0 < refusal {
+        return refusal;
+    }
+    front_refusal(list, basis)
 }
 
 // The record at the front.

@@ -6,10 +6,11 @@ use shapes::Setting;
 ghost use mathlib.Core.Path.{_≡_};
 ghost use Rattle.lists.specs.Settings.{start, inForce};
 
-// The clip and the level in force.
+// The clip, the level and the player in force.
 pub struct Settings {
     pub clip: Clip,
     pub level: u8,
+    pub player: u8,
 }
 
 // The settings before the first record.
@@ -24,6 +25,7 @@ pub fn first_settings(basis: Basis) -> Settings
             y1: basis.h,
         },
         level: 255,
+        player: 0,
     }
 }
 
@@ -31,13 +33,25 @@ pub fn first_settings(basis: Basis) -> Settings
 fn settings_with(settings: Settings, setting: Setting) -> Settings
     ensures { λ r. ⌜ r ≡ inForce settings (Record.Setting setting) ⌝ }
 {
-    let old = settings.clip;
+    let clip = settings.clip;
+    let level = settings.level;
+    let player = settings.player;
     match setting {
-        Setting::Clip(clip) => Settings {
-            clip,
-            level: settings.level,
+        Setting::Clip(next) => Settings {
+            clip: next,
+            level,
+            player,
         },
-        Setting::Level(level) => Settings { clip: old, level },
+        Setting::Level(next) => Settings {
+            clip,
+            level: next,
+            player,
+        },
+        Setting::Player(next) => Settings {
+            clip,
+            level,
+            player: next,
+        },
     }
 }
 

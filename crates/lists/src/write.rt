@@ -5,23 +5,28 @@ ghost use Prim.Native.Nat.{_+_, _≤_};
 ghost use lib.Dec.{ltb};
 ghost use lib.ListN.{length};
 ghost use lib.Seq.{paste};
+ghost use Rattle.shapes.specs.Limits.{basisBy};
 ghost use Rattle.lists.specs.Format.{headerSize};
 ghost use Rattle.lists.specs.inner.Record.{recordMost};
-ghost use Rattle.lists.specs.Write.{tooFew, headerWriteRefusal, recordWriteRefusal, headerWritten, headerList, recordWritten, recordList};
+ghost use Rattle.lists.specs.Write.{tooFew, headerWriteRefusal, recordWriteRefusal, writtenAs, headerWritten, headerList, recordWritten, recordList};
 use super::format::HEADER_SIZE;
 use super::format::Header;
 use super::format::LIST_MOST;
 use super::format::RECORD_MOST;
+use super::format::basis_of;
 use super::format::header_bytes;
+use super::format::last_kind;
 use super::format::record_bytes;
+use super::format::record_kind;
 use super::format::record_size;
 use shapes::Basis;
 use shapes::Record;
 
-// What the writer answers: the number of the refusal or 0, and the place, W and H from now on.
+// What the writer answers: the number of the refusal or 0, and the place, the version, W and H from now on.
 pub struct Written {
     pub refusal: u8,
     pub place: usize,
+    pub version: u16,
     pub w: u16,
     pub h: u16,
 }
@@ -59,7 +64,7 @@ fn no_room(n: usize, place: usize, size: usize) -> bool
 fn header_write_refusal(n: usize, header: Header) -> u8
     ensures { λ r. ⌜ r ≡ headerWriteRefusal n header ⌝ }
 {
-    let refusal = shapes::size_refusal(header.w, header.h);
+    let refusal = shapes::basis_refusal(basis_of(header));
     if 0 < refusal {
         return refusal;
     }
@@ -73,9 +78,12 @@ fn header_write_refusal(n: usize, header: Header) -> u8
 fn record_write_refusal(n: usize, place: usize, basis: Basis, rec: Record) -> u8
     ensures { λ r. ⌜ r ≡ recordWriteRefusal n place basis rec ⌝ }
 {
-    let page = shapes::size_refusal(basis.w, basis.h);
-    if 0 < page {
-        return page;
+    let held = shapes::basis_refusal(basis);
+    if 0 < held {
+        return held;
+    }
+    if last_kind(basis.version) < record_kind(rec) {
+        return 4;
     }
     let refusal = shapes::record_refusal(basis, rec);
     if 0 < refusal {
@@ -87,49 +95,55 @@ fn record_write_refusal(n: usize, place: usize, basis: Basis, rec: Record) -> u8
     0
 }
 
-// The answer of a refusal: the place, W and H remain.
-fn refused(refusal: u8, place: usize, w: u16, h: u16) -> Written
-    ensures { λ r. ⌜ r ≡ record { refusal = refusal; place = place; w = w; h = h } ⌝ }
+// The writer's answer: a refusal or 0, and the place and the basis from now on.
+fn written_as(refusal: u8, place: usize, basis: Basis) -> Written
+    ensures { λ r. ⌜ r ≡ writtenAs refusal place basis ⌝ }
 {
     Written {
         refusal,
         place,
-        w,
-        h,
+        version: basis.version,
+        w: basis.w,
+        h: basis.h,
     }
 }
 
 // Writes a header to byte 0, from any place.
-pub fn write_header(list: &mut [u8], place: usize, w: u16, h: u16, header: Header) -> Written
-    ensures { λ r. ⌜ (r ≡ headerWritten (now (list .entry)) place w h header) × (now (list .exit) ≡ headerList (now (list .entry)) header) ⌝ }
+pub fn write_header(
+    list: &mut [u8],
+    place: usize,
+    version: u16,
+    w: u16,
+    h: u16,
+    header: Header,
+) -> Written
+    ensures { λ r. ⌜ (r ≡ headerWritten (now (list .entry)) place (basisBy version w h) header) × (now (list .exit) ≡ headerList (now (list .entry)) header) ⌝ }
 {
     let refusal = header_write_refusal(list.len(), header);
     if 0 < refusal {
-        return refused(refusal, place, w, h);
+        return written_as(refusal, place, Basis { version, w, h });
     }
     put(list, 0, header_bytes(header), HEADER_SIZE);
-    Written {
-        refusal: 0,
-        place: HEADER_SIZE,
-        w: header.w,
-        h: header.h,
-    }
+    written_as(0, HEADER_SIZE, basis_of(header))
 }
 
 // Writes a record to the place.
-pub fn write_record(list: &mut [u8], place: usize, w: u16, h: u16, rec: Record) -> Written
-    ensures { λ r. ⌜ (r ≡ recordWritten (now (list .entry)) place w h rec) × (now (list .exit) ≡ recordList (now (list .entry)) place w h rec) ⌝ }
+pub fn write_record(
+    list: &mut [u8],
+    place: usize,
+    version: u16,
+    w: u16,
+    h: u16,
+    rec: Record,
+) -> Written
+    ensures { λ r. ⌜ (r ≡ recordWritten (now (list .entry)) place (basisBy version w h) rec) × (now (list .exit) ≡ recordList (now (list .entry)) place (basisBy version w h) rec) ⌝ }
 {
-    let refusal = record_write_refusal(list.len(), place, Basis { w, h }, rec);
+    let basis = Basis { version, w, h };
+    let refusal = record_write_refusal(list.len(), place, basis, rec);
     if 0 < refusal {
-        return refused(refusal, place, w, h);
+        return written_as(refusal, place, basis);
     }
     let size = record_size(rec);
     put(list, place, record_bytes(rec), size);
-    Written {
-        refusal: 0,
-        place: place + size,
-        w,
-        h,
-    }
+    written_as(0, place + size, basis)
 }

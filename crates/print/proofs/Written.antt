@@ -7,7 +7,7 @@ use native.Mathlib.Omega.{arith}
 use borrow.Author.Tests.{lt-ltb, le-ltb}
 use lib.ListN.{length, take, drop, set, getD, drop-of-length-le}
 use lib.Seq.{take-suc-set, take-nil, drop-cons}
-use Rattle.print.specs.Text.{digitOf, digits, number, afterLevel, nextColumn, levelsText}
+use Rattle.print.specs.Text.{digitOf, digits, number, numbersText}
 
 -- a byte stored behind the text that a buffer begins with
 pub one-more : (m t : List ℕ) (at b : ℕ) → at < length m → take at m ≡ t → take (at + 1) (set m at b) ≡ t ++ b ∷ []
@@ -30,28 +30,29 @@ unfolding digits
 digits-more zero n p h = absurd (omega arith)
 digits-more (suc k) n p h = let e : suc k - 1 ≡ k = omega arith in simp (le-ltb n 10 h, e)
 
--- one level more, where the text of those behind it is still to come
-pub level-more : (w x i : ℕ) (vs : List ℕ) → i < length vs
-    → levelsText w x (drop i vs) ≡ number 3 (getD vs i 0) (afterLevel w x) ++ levelsText w (nextColumn w x) (drop (i + 1) vs)
-unfolding levelsText
-level-more w x i vs h = rw add-one (ap (λ (l : List ℕ). levelsText w x l) (drop-cons vs i 0 h))
+-- one number more, where the text of those behind it is still to come
+module _ (k : ℕ) (after next : ℕ → ℕ) where
+  number-more : (x i : ℕ) (ns : List ℕ) → i < length ns
+      → numbersText k after next x (drop i ns) ≡ number k (getD ns i 0) (after x) ++ numbersText k after next (next x) (drop (i + 1) ns)
+  unfolding numbersText
+  number-more x i ns h = rw add-one (ap (numbersText k after next x) (drop-cons ns i 0 h))
 
--- q ++ rest = p ++ (level ++ rest) = p ++ the text from level i on
-pub level-step : (w x i b y : ℕ) (vs p q t : List ℕ) → i < length vs → p ++ levelsText w x (drop i vs) ≡ t → q ≡ p ++ number 3 (getD vs i 0) b
-    → b ≡ afterLevel w x → y ≡ nextColumn w x → q ++ levelsText w y (drop (i + 1) vs) ≡ t
-level-step w x i b y vs p q t h whole put after column =
-    let rest : List ℕ = drop (i + 1) vs in
-    let level : List ℕ = number 3 (getD vs i 0) b in
-    ap (λ (s : List ℕ). s ++ levelsText w y rest) put
-    ∙ append-assoc p level (levelsText w y rest)
-    ∙ ap (λ (s : List ℕ). p ++ s)
-    (ap₂ (λ (f z : ℕ). number 3 (getD vs i 0) f ++ levelsText w z rest) after column ∙ sym (level-more w x i vs h))
-    ∙ whole
+  -- q ++ rest = p ++ (number ++ rest) = p ++ the text from number i on
+  pub number-step : (x i b y : ℕ) (ns p q t : List ℕ) → i < length ns → p ++ numbersText k after next x (drop i ns) ≡ t → q ≡ p ++ number k (getD ns i 0) b
+      → b ≡ after x → y ≡ next x → q ++ numbersText k after next y (drop (i + 1) ns) ≡ t
+  number-step x i b y ns p q t h whole put follows position =
+      let rest : List ℕ = drop (i + 1) ns in
+      let one : List ℕ = number k (getD ns i 0) b in
+      ap (λ (s : List ℕ). s ++ numbersText k after next y rest) put
+      ∙ append-assoc p one (numbersText k after next y rest)
+      ∙ ap (λ (s : List ℕ). p ++ s)
+      (ap₂ (λ (f z : ℕ). number k (getD ns i 0) f ++ numbersText k after next z rest) follows position ∙ sym (number-more x i ns h))
+      ∙ whole
 
-pub levels-end : (w x i : ℕ) (vs p t : List ℕ) → length vs ≤ i → p ++ levelsText w x (drop i vs) ≡ t → p ≡ t
-unfolding levelsText
-levels-end w x i vs p t h whole =
-    sym (append-nil p) ∙ ap (λ (s : List ℕ). p ++ levelsText w x s) (sym (drop-of-length-le vs h)) ∙ whole
+  pub numbers-end : (x i : ℕ) (ns p t : List ℕ) → length ns ≤ i → p ++ numbersText k after next x (drop i ns) ≡ t → p ≡ t
+  unfolding numbersText
+  numbers-end x i ns p t h whole =
+      sym (append-nil p) ∙ ap (λ (s : List ℕ). p ++ numbersText k after next x s) (sym (drop-of-length-le ns h)) ∙ whole
 
 -- a part of a list that ends where the list does, at the latest
 pub take-min : (n : ℕ) (l : List ℕ) → take (min n (length l)) l ≡ take n l

@@ -3,7 +3,8 @@ ghost use mathlib.Core.Path.{_≡_};
 ghost use mathlib.Core.List.{_++_};
 ghost use Prim.Native.Nat.{_+_, _*_, _%_, _≤_, _<_};
 ghost use lib.ListN.{length, take};
-ghost use Rattle.print.specs.Text.{digitOf, digits, number, afterLevel, nextColumn, levelsText, refusalText, headText, pageText};
+use shapes::PLAYERS;
+ghost use Rattle.print.specs.Text.{digitOf, digits, number, afterLevel, nextColumn, levelsText, afterCount, countsText, refusalText, headText, pageText};
 
 // The last decimal digit of a number.
 fn digit(n: u64) -> u8
@@ -99,10 +100,32 @@ fn put_levels(out: &mut [u8], at: usize, w: usize, levels: &[u8]) -> usize
     next
 }
 
+// What follows the count of a player.
+fn after_count(player: usize) -> u8
+    requires { ⌜ player < 8 ⌝ }
+    ensures { λ r. ⌜ r ≡ afterCount player ⌝ }
+{
+    if player + 1 == PLAYERS { b'\n' } else { b' ' }
+}
+
+// Puts the counts of the players; hands back the place after them.
+fn put_counts(out: &mut [u8], at: usize, touched: [u64; PLAYERS]) -> usize
+    requires { ⌜ at + 168 ≤ length (now out) ⌝ }
+    ensures { λ r. ⌜ (take r (now (out .exit)) ≡ take at (now (out .entry)) ++ countsText 0 touched) × (r ≤ at + 168) ⌝ }
+{
+    let mut next = at;
+    let mut player: usize = 0;
+    while player < PLAYERS {
+        next = put_number(out, next, touched[player], 20, after_count(player));
+        player += 1;
+    }
+    next
+}
+
 // Puts the text of a refusal; hands back its length.
 pub(crate) fn put_refusal(out: &mut [u8], refusal: u8, place: usize) -> usize
-    requires { ⌜ 80 ≤ length (now out) ⌝ }
-    ensures { λ r. ⌜ (take r (now (out .exit)) ≡ refusalText refusal place) × (r ≤ 80) ⌝ }
+    requires { ⌜ 240 ≤ length (now out) ⌝ }
+    ensures { λ r. ⌜ (take r (now (out .exit)) ≡ refusalText refusal place) × (r ≤ 240) ⌝ }
 {
     let mut at = put_bytes(out, 0, b"refused ");
     at = put_number(out, at, refusal as u64, 20, b' ');
@@ -111,21 +134,27 @@ pub(crate) fn put_refusal(out: &mut [u8], refusal: u8, place: usize) -> usize
 }
 
 // Puts what stands before the levels of a page; hands back its length.
-fn put_head(out: &mut [u8], w: u16, h: u16, touched: u64) -> usize
-    requires { ⌜ 80 ≤ length (now out) ⌝ }
-    ensures { λ r. ⌜ (take r (now (out .exit)) ≡ headText w h touched) × (r ≤ 80) ⌝ }
+fn put_head(out: &mut [u8], w: u16, h: u16, touched: [u64; PLAYERS]) -> usize
+    requires { ⌜ 240 ≤ length (now out) ⌝ }
+    ensures { λ r. ⌜ (take r (now (out .exit)) ≡ headText w h touched) × (r ≤ 240) ⌝ }
 {
     let mut at = put_bytes(out, 0, b"P2\n# touched ");
-    at = put_number(out, at, touched, 20, b'\n');
+    at = put_counts(out, at, touched);
     at = put_number(out, at, w as u64, 20, b' ');
     at = put_number(out, at, h as u64, 20, b'\n');
     put_bytes(out, at, b"255\n")
 }
 
 // Puts the text of a page; hands back its length.
-pub(crate) fn put_page(out: &mut [u8], page: &[u8], w: u16, h: u16, touched: u64) -> usize
-    requires { ⌜ (4 * length (now page) + 80 ≤ length (now out)) × (length (now page) ≤ 65536) ⌝ }
-    ensures { λ r. ⌜ (take r (now (out .exit)) ≡ pageText w h touched (now (page .entry))) × (r ≤ 4 * length (now (page .entry)) + 80) ⌝ }
+pub(crate) fn put_page(
+    out: &mut [u8],
+    page: &[u8],
+    w: u16,
+    h: u16,
+    touched: [u64; PLAYERS],
+) -> usize
+    requires { ⌜ (4 * length (now page) + 240 ≤ length (now out)) × (length (now page) ≤ 65536) ⌝ }
+    ensures { λ r. ⌜ (take r (now (out .exit)) ≡ pageText w h touched (now (page .entry))) × (r ≤ 4 * length (now (page .entry)) + 240) ⌝ }
 {
     let at = put_head(out, w, h, touched);
     let n = numbers::lesser((w as u64) * (h as u64), page.len() as u64) as usize;

@@ -17,10 +17,11 @@ use Rattle.numbers.specs.inner.Offset.{offsetMost, offsetOf}
 use Rattle.numbers.proofs.Order.{lt-or-le, eq-or-ne}
 use Rattle.numbers.proofs.Integer.{diff-le, le-diff}
 use Rattle.numbers.proofs.Coordinate.{InRange, in-range, range-offset}
-use Rattle.shapes.specs.Limits.{outside, same, offRange, radiusMost, offRadius, refusalsOf, shapeRefusal}
+use Rattle.shapes.specs.Limits.{offVersion, outside, same, offRange, radiusMost, offRadius, refusalsOf, sizeRefusal, basisRefusal, shapeRefusal}
 use Rattle.shapes.specs.inner.Offsets.{pointOf, endsOf}
 use Rattle.shapes.specs.declared.Point.{Point}
 use Rattle.shapes.specs.declared.Ends.{Ends}
+use Rattle.shapes.specs.declared.Basis.{Basis}
 use Rattle.shapes.specs.declared.Line.{Line}
 use Rattle.shapes.specs.declared.Disc.{Disc}
 use Rattle.shapes.specs.declared.Ring.{Ring}
@@ -198,3 +199,8 @@ ring-lawful g z =
     let c = circle-lawful (g .x) (g .y) (g .radius) (cond (ltb (g .width) 1 || ltb (g .radius) (g .width)) 11 0) z in
     let k = or-clear (ltb (g .width) 1) (ltb (g .radius) (g .width)) (clear (ltb (g .width) 1 || ltb (g .radius) (g .width)) 10 0 (c .1) .0) in
     record { circle = c .0; least = omega (arith, ltb-false (g .width) 1 (k .0)); most = omega (arith, ltb-false (g .radius) (g .width) (k .1)) }
+
+-- ---- a basis without a refusal has a lawful page
+pub basis-size : (b : Basis) → basisRefusal b ≡ 0 → sizeRefusal (b .w) (b .h) ≡ 0
+unfolding basisRefusal
+basis-size b e = tried-clear (sizeRefusal (b .w) (b .h)) 0 (clear (offVersion (b .version)) 1 _ e .1) .0

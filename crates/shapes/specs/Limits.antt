@@ -10,7 +10,7 @@ use Rattle.shapes.specs.declared.Shape.{Shape}
 use Rattle.shapes.specs.declared.Shape.the-variants.{Line as line, Disc as disc, Ring as ring}
 use Rattle.shapes.specs.declared.Clip.{Clip}
 use Rattle.shapes.specs.declared.Basis.{Basis}
-use Rattle.shapes.specs.declared.Setting.the-variants.{Clip as clip, Level as level}
+use Rattle.shapes.specs.declared.Setting.the-variants.{Clip as clip, Level as level, Player as player}
 use Rattle.shapes.specs.declared.Record.{Record}
 use Rattle.shapes.specs.declared.Record.the-variants.{End as end, Setting as setting, Shape as shape}
 
@@ -22,6 +22,13 @@ first (t ∷ ts) = cond (t .0) (t .1) (first ts)
 -- a refusal that is given by its number, as a test
 abbrev pub tried : ℕ → Bool × ℕ
 tried f = (ltb 0 f, f)
+
+-- 2: a version other than 1 or 2
+abbrev pub versionMost : ℕ
+versionMost = 2
+
+abbrev pub offVersion : ℕ → Bool
+offVersion v = ltb v 1 || ltb versionMost v
 
 -- 3: W or H outside 1 to 1,024
 unfoldable pub offSize : ℕ → ℕ → Bool
@@ -51,22 +58,35 @@ radiusMost = 255
 abbrev pub offRadius : ℕ → Bool
 offRadius r = ltb r 1 || ltb radiusMost r
 
+-- 31: a player above 7
+abbrev pub playerMost : ℕ
+playerMost = 7
+
+abbrev pub offPlayer : ℕ → Bool
+offPlayer p = ltb playerMost p
+
 -- what else is tried of a shape. 9: a line whose ends coincide. 11: a ring's width of 0 or above the radius
 unfoldable pub refusalsOf : Shape → List (Bool × ℕ)
 refusalsOf (line l) = (same (l .x0) (l .x1) && same (l .y0) (l .y1), 9) ∷ []
 refusalsOf (disc d) = (offRadius (d .radius), 10) ∷ []
 refusalsOf (ring g) = (offRadius (g .radius), 10) ∷ (ltb (g .width) 1 || ltb (g .radius) (g .width), 11) ∷ []
 
--- the basis of a page of w by h
-abbrev pub sized : ℕ → ℕ → Basis
-sized w h = record { w = w; h = h }
+-- the basis of version v and a page of w by h
+abbrev pub basisBy : ℕ → ℕ → ℕ → Basis
+basisBy v w h = record { version = v; w = w; h = h }
 
--- what is tried of W and H, of a clip, of a shape and of a record
+-- what is tried of W and H, of a basis, of a clip, of a player, of a shape and of a record
 unfoldable pub sizeRefusal : ℕ → ℕ → ℕ
 sizeRefusal w h = first ((offSize w h, 3) ∷ [])
 
+unfoldable pub basisRefusal : Basis → ℕ
+basisRefusal b = first ((offVersion (b .version), 2) ∷ tried (sizeRefusal (b .w) (b .h)) ∷ [])
+
 unfoldable pub clipRefusal : ℕ → ℕ → Clip → ℕ
 clipRefusal w h c = first ((offPage w h c, 8) ∷ [])
+
+unfoldable pub playerRefusal : ℕ → ℕ
+playerRefusal p = first ((offPlayer p, 31) ∷ [])
 
 unfoldable pub shapeRefusal : Shape → ℕ
 shapeRefusal s = first ((offRange s, 7) ∷ refusalsOf s)
@@ -75,4 +95,5 @@ unfoldable pub recordRefusal : Basis → Record → ℕ
 recordRefusal b end = 0
 recordRefusal b (setting (clip c)) = clipRefusal (b .w) (b .h) c
 recordRefusal b (setting (level v)) = 0
+recordRefusal b (setting (player p)) = playerRefusal p
 recordRefusal b (shape s) = shapeRefusal s

@@ -1,11 +1,19 @@
 // The shapes, the settings and the records of a drawing list, and the limits of each.
 use numbers::OFFSET_MOST;
 ghost use mathlib.Core.Path.{_≡_};
-ghost use Rattle.shapes.specs.Limits.{sizeRefusal, clipRefusal, shapeRefusal, recordRefusal};
+ghost use Rattle.shapes.specs.Limits.{sizeRefusal, basisRefusal, clipRefusal, playerRefusal, shapeRefusal, recordRefusal};
 ghost use Rattle.shapes.specs.inner.Offsets.{pointOf, endsOf};
+
+// The latest version of the format.
+pub const VERSION_MOST: u16 = 2;
 
 // The greatest radius.
 pub const RADIUS_MOST: u16 = 255;
+
+// How many players there are, and the last of them; the first is 0.
+pub const PLAYERS: usize = 8;
+
+pub const PLAYER_MOST: u8 = 7;
 
 pub struct Line {
     pub exact: bool,
@@ -41,8 +49,9 @@ pub struct Clip {
     pub y1: u16,
 }
 
-// What a record is read and written against: W and H.
+// What a record is read and written against: the version of its list, W and H.
 pub struct Basis {
+    pub version: u16,
     pub w: u16,
     pub h: u16,
 }
@@ -50,6 +59,7 @@ pub struct Basis {
 pub enum Setting {
     Clip(Clip),
     Level(u8),
+    Player(u8),
 }
 
 pub enum Record {
@@ -111,6 +121,19 @@ pub fn size_refusal(w: u16, h: u16) -> u8
     0
 }
 
+// The first refusal of a basis, 2 or 3, or 0.
+pub fn basis_refusal(basis: Basis) -> u8
+    ensures { λ r. ⌜ r ≡ basisRefusal basis ⌝ }
+{
+    if basis.version < 1 {
+        return 2;
+    }
+    if VERSION_MOST < basis.version {
+        return 2;
+    }
+    size_refusal(basis.w, basis.h)
+}
+
 // The refusal of a clip on a page of w by h, 8, or 0.
 pub fn clip_refusal(w: u16, h: u16, clip: Clip) -> u8
     ensures { λ r. ⌜ r ≡ clipRefusal w h clip ⌝ }
@@ -126,6 +149,16 @@ pub fn clip_refusal(w: u16, h: u16, clip: Clip) -> u8
     }
     if h < clip.y1 {
         return 8;
+    }
+    0
+}
+
+// The refusal of a player, 31, or 0.
+pub fn player_refusal(player: u8) -> u8
+    ensures { λ r. ⌜ r ≡ playerRefusal player ⌝ }
+{
+    if PLAYER_MOST < player {
+        return 31;
     }
     0
 }
@@ -208,7 +241,7 @@ pub fn shape_refusal(shape: Shape) -> u8
     }
 }
 
-// The first refusal of a record, 7 to 11, or 0.
+// The first refusal of a record, 7 to 11 or 31, or 0.
 pub fn record_refusal(basis: Basis, rec: Record) -> u8
     ensures { λ r. ⌜ r ≡ recordRefusal basis rec ⌝ }
 {
@@ -217,6 +250,7 @@ pub fn record_refusal(basis: Basis, rec: Record) -> u8
         Record::Setting(setting) => match setting {
             Setting::Clip(clip) => clip_refusal(basis.w, basis.h, clip),
             Setting::Level(_) => 0,
+            Setting::Player(player) => player_refusal(player),
         },
         Record::Shape(shape) => shape_refusal(shape),
     }

@@ -1,4 +1,4 @@
-// The writer of a drawing list: the list being written together with the place reached, W and H.
+// The writer of a drawing list: the list being written together with the place reached, and the version, W and H that are held.
 // The work is done by `lists::write`; the thin functions take the writer apart and store what is answered.
 ghost use mathlib.Core.Path.{_≡_};
 ghost use Rattle.writer.specs.Writer.{headerBy, recordBy, headed, recorded, startedOf, startedList};
@@ -8,6 +8,7 @@ use shapes::Record;
 pub struct Writer<'a> {
     pub list: &'a mut [u8],
     pub place: usize,
+    pub version: u16,
     pub w: u16,
     pub h: u16,
 }
@@ -19,11 +20,13 @@ pub fn write_header<'s, 'a>(writer: &'s mut Writer<'a>, header: Header) -> u8
     let written = lists::write::write_header(
         &mut *writer.list,
         writer.place,
+        writer.version,
         writer.w,
         writer.h,
         header,
     );
     writer.place = written.place;
+    writer.version = written.version;
     writer.w = written.w;
     writer.h = written.h;
     written.refusal
@@ -36,11 +39,13 @@ pub fn write_record<'s, 'a>(writer: &'s mut Writer<'a>, rec: Record) -> u8
     let written = lists::write::write_record(
         &mut *writer.list,
         writer.place,
+        writer.version,
         writer.w,
         writer.h,
         rec,
     );
     writer.place = written.place;
+    writer.version = written.version;
     writer.w = written.w;
     writer.h = written.h;
     written.refusal
@@ -60,6 +65,7 @@ pub fn start_list(list: &mut [u8], header: Header, rec: Record) -> Started
     let mut writer = Writer {
         list: list,
         place: 0,
+        version: 0,
         w: 0,
         h: 0,
     };

@@ -5,6 +5,7 @@
 use crate::baseline::{clip_refusal, page_refusal, paint, shape_refusal};
 use greystroke::{
     Clip, Disc, Header, Line, ListRefusal, Picture, Record, Refusal, Ring, Setting, Shape, Size,
+    PLAYERS,
 };
 
 const LONGEST_LIST: usize = 65_536;
@@ -16,7 +17,7 @@ pub fn check_list(list: &[u8], page_length: usize) -> Result<Header, ListRefusal
     let header = check_header(list, page_length).map_err(at(0))?;
     let mut place = HEADER_LENGTH;
     loop {
-        let (record, length) = decode(&list[place..]).map_err(at(place))?;
+        let (record, length) = decode(&list[place..], header.version).map_err(at(place))?;
         if let Some(refusal) = record_refusal(record, header.size) {
             return Err(at(place)(refusal));
         }
@@ -33,18 +34,24 @@ pub fn check_list(list: &[u8], page_length: usize) -> Result<Header, ListRefusal
 
 /// What [`greystroke::draw_list`] does.
 pub fn draw_list(page: &mut [u8], list: &[u8]) -> Result<Picture, ListRefusal> {
-    let Header { size, background } = check_list(list, page.len())?;
+    let Header {
+        version,
+        size,
+        background,
+    } = check_list(list, page.len())?;
     page[..usize::from(size.width) * usize::from(size.height)].fill(background);
     let mut clip = Clip::whole(size);
     let mut level = 255;
-    let mut touched = 0;
+    let mut player = 0;
+    let mut touched = [0; PLAYERS];
     let mut rest = &list[HEADER_LENGTH..];
-    while let Ok((record, length)) = decode(rest) {
+    while let Ok((record, length)) = decode(rest, version) {
         match record {
             Record::End => break,
             Record::Setting(Setting::Clip(next)) => clip = next,
             Record::Setting(Setting::Level(next)) => level = next,
-            Record::Shape(shape) => touched += paint(page, size, clip, level, shape),
+            Record::Setting(Setting::Player(next)) => player = usize::from(next),
+            Record::Shape(shape) => touched[player] += paint(page, size, clip, level, shape),
         }
         rest = &rest[length..];
     }
@@ -58,7 +65,9 @@ fn check_header(list: &[u8], page_length: usize) -> Result<Header, Refusal> {
         return Err(Refusal::CutShort);
     } else if &list[..3] != b"INK" {
         return Err(Refusal::WrongMark);
-    } else if word(list, 3) != 1 {
+    }
+    let version = word(list, 3);
+    if version != 1 && version != 2 {
         return Err(Refusal::WrongVersion);
     }
     let (width, height) = (word(list, 5), word(list, 7));
@@ -66,6 +75,7 @@ fn check_header(list: &[u8], page_length: usize) -> Result<Header, Refusal> {
     match page_refusal(page_length, size) {
         Some(refusal) => Err(refusal),
         None => Ok(Header {
+            version,
             size,
             background: list[9],
         }),
@@ -76,12 +86,15 @@ fn record_refusal(record: Record, size: Size) -> Option<Refusal> {
     match record {
         Record::End | Record::Setting(Setting::Level(_)) => None,
         Record::Setting(Setting::Clip(clip)) => clip_refusal(clip, size),
+        Record::Setting(Setting::Player(player)) => {
+            (usize::from(player) >= PLAYERS).then_some(Refusal::Player)
+        }
         Record::Shape(shape) => shape_refusal(shape),
     }
 }
 
-/// The record at the front of the bytes, and how many it has.
-fn decode(bytes: &[u8]) -> Result<(Record, usize), Refusal> {
+/// The record at the front of the bytes of a list of this version, and how many it has.
+fn decode(bytes: &[u8], version: u16) -> Result<(Record, usize), Refusal> {
     let &kind = bytes.first().ok_or(Refusal::CutShort)?;
     let length = match kind {
         0 => 1,
@@ -89,6 +102,7 @@ fn decode(bytes: &[u8]) -> Result<(Record, usize), Refusal> {
         2 => 2,
         5 => 6,
         6 => 7,
+        7 if version == 2 => 2,
         _ => return Err(Refusal::UnknownKind),
     };
     let bytes = bytes.get(..length).ok_or(Refusal::CutShort)?;
@@ -101,6 +115,7 @@ fn decode(bytes: &[u8]) -> Result<(Record, usize), Refusal> {
             y1: word(bytes, 7),
         })),
         2 => Record::Setting(Setting::Level(bytes[1])),
+        7 => Record::Setting(Setting::Player(bytes[1])),
         _ => Record::Shape(decode_shape(bytes)),
     };
     Ok((record, length))

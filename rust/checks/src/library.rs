@@ -6,7 +6,7 @@ use reference::coverage::Fraction;
 use reference::format::Header;
 use reference::list::Drawn;
 use reference::refusal::Refused;
-use reference::shape::{Clip, Disc, Line, Record, Ring, Setting, Shape};
+use reference::shape::{Basis, Clip, Disc, Line, Record, Ring, Setting, Shape};
 
 pub fn coverage(shape: &Shape, x: i16, y: i16) -> Result<Fraction, Refused> {
     match greystroke::coverage(library_shape(shape), x, y) {
@@ -26,8 +26,8 @@ pub fn draw_shape(call: &mut ShapeCall) -> Result<u64, Refused> {
 }
 
 /// The record and the bytes past it; with a refusal all that was lent.
-pub fn read_record(bytes: &[u8], width: u16, height: u16) -> (Result<Record, Refused>, &[u8]) {
-    match greystroke::read_record(bytes, library_size(width, height)) {
+pub fn read_record(bytes: &[u8], basis: Basis) -> (Result<Record, Refused>, &[u8]) {
+    match greystroke::read_record(bytes, library_basis(basis)) {
         Ok((record, rest)) => (Ok(reference_record(record)), rest),
         Err(refusal) => (Err(without_place(refusal)), bytes),
     }
@@ -36,6 +36,7 @@ pub fn read_record(bytes: &[u8], width: u16, height: u16) -> (Result<Record, Ref
 pub fn check_list(list: &[u8], page_length: usize) -> Result<Header, Refused> {
     match greystroke::check_list(list, page_length) {
         Ok(header) => Ok(Header {
+            version: header.version,
             width: header.size.width,
             height: header.size.height,
             background: header.background,
@@ -59,17 +60,17 @@ pub fn write(writing: &mut Writing, what: &Writable) -> Result<(), Refused> {
     let mut writer = greystroke::Writer {
         list: &mut writing.list,
         place: writing.place,
-        size: library_size(writing.width, writing.height),
+        basis: library_basis(writing.basis),
     };
     let outcome = match what {
         Writable::Header(header) => writer.write_header(greystroke::Header {
+            version: header.version,
             size: library_size(header.width, header.height),
             background: header.background,
         }),
         Writable::Record(record) => writer.write_record(library_record(record)),
     };
-    let (place, size) = (writer.place, writer.size);
-    (writing.place, writing.width, writing.height) = (place, size.width, size.height);
+    (writing.place, writing.basis) = (writer.place, reference_basis(writer.basis));
     outcome.map_err(without_place)
 }
 
@@ -93,6 +94,21 @@ fn library_size(width: u16, height: u16) -> greystroke::Size {
     greystroke::Size { width, height }
 }
 
+fn library_basis(basis: Basis) -> greystroke::Basis {
+    greystroke::Basis {
+        version: basis.version,
+        size: library_size(basis.width, basis.height),
+    }
+}
+
+fn reference_basis(basis: greystroke::Basis) -> Basis {
+    Basis {
+        version: basis.version,
+        width: basis.size.width,
+        height: basis.size.height,
+    }
+}
+
 fn library_clip(clip: &Clip) -> greystroke::Clip {
     let &Clip { x0, y0, x1, y1 } = clip;
     greystroke::Clip { x0, y0, x1, y1 }
@@ -107,6 +123,9 @@ fn library_record(record: &Record) -> greystroke::Record {
         Record::Setting(Setting::Level(level)) => {
             greystroke::Record::Setting(greystroke::Setting::Level(*level))
         }
+        Record::Setting(Setting::Player(player)) => {
+            greystroke::Record::Setting(greystroke::Setting::Player(*player))
+        }
         Record::Shape(shape) => greystroke::Record::Shape(library_shape(shape)),
     }
 }
@@ -120,6 +139,9 @@ fn reference_record(record: greystroke::Record) -> Record {
         }
         greystroke::Record::Setting(greystroke::Setting::Level(level)) => {
             Record::Setting(Setting::Level(level))
+        }
+        greystroke::Record::Setting(greystroke::Setting::Player(player)) => {
+            Record::Setting(Setting::Player(player))
         }
         greystroke::Record::Shape(shape) => Record::Shape(reference_shape(shape)),
     }

@@ -2,13 +2,19 @@
 
 use crate::random::Random;
 use crate::strokes::{disc, line, push_outside, ring};
-use reference::format::{encode_header, encode_record, Header};
-use reference::shape::{Clip, Record, Setting, Shape};
+use reference::format::{encode_header, encode_record, kind_of, kind_refusal, Header};
+use reference::shape::{Basis, Clip, Record, Setting, Shape};
 
 const UNLAWFUL_SIDES: [u16; 3] = [0, 1025, u16::MAX];
+/// With the low byte of a lawful version, and without.
+const UNLAWFUL_VERSIONS: [u16; 5] = [0, 3, 257, 258, u16::MAX];
 
-/// A header; one in sixteen has a side out of range.
+/// A header; one in sixteen has a side out of range, and one in sixteen an unlawful version.
 pub fn header(random: &mut Random) -> Header {
+    let version = match random.one_in(16) {
+        true => random.pick(&UNLAWFUL_VERSIONS),
+        false => lawful_version(random),
+    };
     let mut side = || match random.between(0, 31) {
         0 => random.pick(&UNLAWFUL_SIDES),
         1 => 1024,
@@ -17,26 +23,43 @@ pub fn header(random: &mut Random) -> Header {
     };
     let (width, height) = (side(), side());
     Header {
+        version,
         width,
         height,
         background: random.bits() as u8,
     }
 }
 
-/// Any record, refused on a page of this size or not.
-pub fn record(random: &mut Random, width: u16, height: u16) -> Record {
-    let mut shape = match random.between(0, 9) {
+/// One list in three is of version 1.
+pub fn lawful_version(random: &mut Random) -> u16 {
+    random.pick(&[1, 2, 2])
+}
+
+/// Any record, refused in a list of this version and page or not.
+pub fn record(random: &mut Random, basis: Basis) -> Record {
+    let Basis { width, height, .. } = basis;
+    let mut shape = match random.between(0, 11) {
         0 => return Record::End,
         1 => return Record::Setting(Setting::Level(random.bits() as u8)),
         2 | 3 => return Record::Setting(Setting::Clip(clip(random, width, height))),
-        4..=6 => Shape::Line(line(random)),
-        7 => Shape::Disc(disc(random)),
+        4 | 5 => return Record::Setting(Setting::Player(player(random))),
+        6..=8 => Shape::Line(line(random)),
+        9 => Shape::Disc(disc(random)),
         _ => Shape::Ring(ring(random)),
     };
     if random.one_in(8) {
         push_outside(random, &mut shape);
     }
     Record::Shape(shape)
+}
+
+/// One in eight is no player.
+fn player(random: &mut Random) -> u8 {
+    let no_player = random.between(8, 255) as u8;
+    match random.one_in(8) {
+        true => random.pick(&[8, 255, no_player]),
+        false => random.between(0, 7) as u8,
+    }
 }
 
 fn clip(random: &mut Random, width: u16, height: u16) -> Clip {
@@ -53,23 +76,25 @@ fn clip(random: &mut Random, width: u16, height: u16) -> Clip {
     Clip { x0, y0, x1, y1 }
 }
 
-/// A setting or a shape that is not refused on a page of lawful size.
-pub fn lawful_record(random: &mut Random, width: u16, height: u16) -> Record {
+/// A setting or a shape that is not refused in a list of this version with a page of lawful size.
+pub fn lawful_record(random: &mut Random, basis: Basis) -> Record {
     loop {
-        let record = record(random, width, height);
-        if record != Record::End && record.first_refusal(width, height).is_none() {
+        let record = record(random, basis);
+        let refusal = kind_refusal(kind_of(&record), basis.version)
+            .or_else(|| record.first_refusal(basis.width, basis.height));
+        if record != Record::End && refusal.is_none() {
             return record;
         }
     }
 }
 
 /// A record for a list: one in twenty may have a refusal, or be an end record before the last.
-fn listed_record(random: &mut Random, width: u16, height: u16) -> Record {
+fn listed_record(random: &mut Random, basis: Basis) -> Record {
     if !random.one_in(20) {
-        return lawful_record(random, width, height);
+        return lawful_record(random, basis);
     }
     loop {
-        let record = record(random, width, height);
+        let record = record(random, basis);
         if fits_its_bytes(&record) {
             return record;
         }
@@ -89,9 +114,13 @@ fn fits_its_bytes(record: &Record) -> bool {
 pub fn list(random: &mut Random) -> Vec<u8> {
     let header = header(random);
     let mut list = encode_header(&header);
+    let basis = Basis {
+        width: header.width.max(1),
+        height: header.height.max(1),
+        ..header.basis()
+    };
     for _ in 0..random.between(0, 12) {
-        let record = listed_record(random, header.width.max(1), header.height.max(1));
-        list.extend(encode_record(&record));
+        list.extend(encode_record(&listed_record(random, basis)));
     }
     list.push(0);
     list
@@ -101,7 +130,7 @@ pub fn list(random: &mut Random) -> Vec<u8> {
 pub fn damage(random: &mut Random, list: &mut Vec<u8>) {
     let place = random.between(0, list.len() as i64 - 1) as usize;
     let any = random.bits() as u8;
-    let byte = random.pick(&[0, 1, 7, 16, 0xF0, 0xFF, any]);
+    let byte = random.pick(&[0, 1, 2, 7, 16, 0xF0, 0xFF, any]);
     match random.between(0, 6) {
         0 => list.truncate(place),
         1 => list.push(byte),

@@ -2,6 +2,7 @@
 
 use reference::format::Header;
 use reference::shape::{Clip, Disc, Line, Record, Ring, Setting, Shape};
+use std::fmt::Display;
 use std::str::FromStr;
 
 /// What the writer is asked for.
@@ -64,10 +65,11 @@ fn parse_ring(fields: &str) -> Shape {
     })
 }
 
-/// Coordinates are signed and radii are not, so a mixed row is parsed wide first.
-fn narrow<T: TryFrom<i32>>(value: i32) -> T {
-    let narrowed = T::try_from(value).ok();
-    narrowed.unwrap_or_else(|| panic!("{value} does not fit 16 bits"))
+/// Coordinates are signed and radii are not, and a length is wider than a side, so a mixed row is
+/// parsed wide first.
+pub fn narrow<W: Copy + Display, N: TryFrom<W>>(value: W) -> N {
+    let narrowed = N::try_from(value).ok();
+    narrowed.unwrap_or_else(|| panic!("{value} does not fit its field"))
 }
 
 pub fn parse_clip(text: &str) -> Clip {
@@ -79,11 +81,12 @@ pub fn parse_writable(text: &str) -> Writable {
     let (kind, fields) = keyword(text);
     match kind {
         "header" => {
-            let [width, height, background]: [u16; 3] = numbers(fields);
+            let [version, width, height, background]: [u16; 4] = numbers(fields);
             Writable::Header(Header {
+                version,
                 width,
                 height,
-                background: narrow(background.into()),
+                background: narrow(background),
             })
         }
         "end" => Writable::Record(Record::End),
@@ -91,6 +94,10 @@ pub fn parse_writable(text: &str) -> Writable {
         "level" => {
             let [level] = numbers(fields);
             Writable::Record(Record::Setting(Setting::Level(level)))
+        }
+        "player" => {
+            let [player] = numbers(fields);
+            Writable::Record(Record::Setting(Setting::Player(player)))
         }
         _ => Writable::Record(Record::Shape(parse_shape(text))),
     }
@@ -101,6 +108,7 @@ pub fn show_record(record: &Record) -> String {
         Record::End => "end".to_string(),
         Record::Setting(Setting::Clip(c)) => format!("clip {} {} {} {}", c.x0, c.y0, c.x1, c.y1),
         Record::Setting(Setting::Level(level)) => format!("level {level}"),
+        Record::Setting(Setting::Player(player)) => format!("player {player}"),
         Record::Shape(shape) => show_shape(shape),
     }
 }

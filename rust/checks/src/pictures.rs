@@ -1,18 +1,27 @@
 //! Random lists that are accepted and whose shapes meet their page, and pages to draw them on.
 
 use crate::drawings::{clip, point_near, shape, sides, LONGEST_CLIP};
+use crate::listings::lawful_version;
 use crate::random::Random;
 use reference::format::{encode_header, encode_record, Header};
 use reference::shape::{page_size_refusal, Clip, Disc, Line, Record, Ring, Setting, Shape};
 
-/// A list, and the header it begins with.
+/// A list, and what it is made of.
 pub struct Listed {
     pub header: Header,
+    /// Those in front of the end record.
+    pub records: Vec<Record>,
     pub list: Vec<u8>,
 }
 
-/// Up to ten settings and shapes on a page of any lawful size.
+/// Up to twelve settings and shapes in a list of either version, on a page of any lawful size.
 pub fn picture(random: &mut Random) -> Listed {
+    let version = lawful_version(random);
+    picture_of(random, version)
+}
+
+/// The same of one version.
+pub fn picture_of(random: &mut Random, version: u16) -> Listed {
     let (width, height) = lawful_sides(random);
     let mut clip_now = Clip::whole(width, height);
     let mut records = Vec::new();
@@ -21,17 +30,25 @@ pub fn picture(random: &mut Random) -> Listed {
         clip_now = clip(random, width, height);
         records.push(Record::Setting(Setting::Clip(clip_now)));
     }
-    for _ in 0..random.between(0, 10) {
-        records.push(match random.between(0, 5) {
+    for _ in 0..random.between(0, 12) {
+        records.push(match random.between(0, 6) {
             0 => {
                 clip_now = clip(random, width, height);
                 Record::Setting(Setting::Clip(clip_now))
             }
             1 => Record::Setting(Setting::Level(level(random))),
+            2 if version == 2 => Record::Setting(Setting::Player(player(random))),
             _ => Record::Shape(shape_about(random, &clip_now)),
         });
     }
-    listed(random, width, height, &records)
+    let background = level(random);
+    let header = Header {
+        version,
+        width,
+        height,
+        background,
+    };
+    listed(header, records)
 }
 
 fn lawful_sides(random: &mut Random) -> (u16, u16) {
@@ -48,6 +65,10 @@ fn level(random: &mut Random) -> u8 {
     random.pick(&[0, 255, any])
 }
 
+fn player(random: &mut Random) -> u8 {
+    random.between(0, 7) as u8
+}
+
 fn shape_about(random: &mut Random, clip: &Clip) -> Shape {
     loop {
         let near = point_near(random, clip);
@@ -58,27 +79,36 @@ fn shape_about(random: &mut Random, clip: &Clip) -> Shape {
     }
 }
 
-fn listed(random: &mut Random, width: u16, height: u16, records: &[Record]) -> Listed {
-    let header = Header {
-        width,
-        height,
-        background: level(random),
-    };
+/// The list of a header and records, with an end record behind them.
+pub fn listed(header: Header, records: Vec<Record>) -> Listed {
     let mut list = encode_header(&header);
     list.extend(records.iter().flat_map(encode_record));
     list.extend(encode_record(&Record::End));
-    Listed { header, list }
+    Listed {
+        header,
+        records,
+        list,
+    }
 }
 
-/// Up to ten short shapes, each at a level of its own, on a page of at most eight by eight.
+/// Up to ten short shapes, each at a level of its own and in version 2 of any player, on a page of
+/// at most eight by eight.
 pub fn small_picture(random: &mut Random) -> Listed {
-    let (width, height) = (random.between(1, 8) as u16, random.between(1, 8) as u16);
+    let header = Header {
+        version: lawful_version(random),
+        width: random.between(1, 8) as u16,
+        height: random.between(1, 8) as u16,
+        background: level(random),
+    };
     let mut records = Vec::new();
     for _ in 0..random.between(1, 10) {
         records.push(Record::Setting(Setting::Level(level(random))));
+        if header.version == 2 {
+            records.push(Record::Setting(Setting::Player(player(random))));
+        }
         records.push(Record::Shape(short_shape(random)));
     }
-    listed(random, width, height, &records)
+    listed(header, records)
 }
 
 /// Mostly a line, as only a line is drawn with other than its exact coverage.

@@ -9,14 +9,12 @@ pub fn write(writing: &mut Writing, what: &Writable) -> Result<(), Refused> {
     let mut writer = Writer {
         list: &mut writing.list,
         place: writing.place,
-        width: writing.width,
-        height: writing.height,
+        basis: writing.basis,
     };
     let outcome = match what {
         Writable::Header(header) => writer.write_header(header),
         Writable::Record(record) => writer.write_record(record),
     };
-    let (place, width, height) = (writer.place, writer.width, writer.height);
-    (writing.place, writing.width, writing.height) = (place, width, height);
+    (writing.place, writing.basis) = (writer.place, writer.basis);
     outcome
 }

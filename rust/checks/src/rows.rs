@@ -3,18 +3,19 @@
 //! The call itself is handed in, so that the reference and the library answer by the same text.
 
 use crate::cases::{parse_hex, show_hex};
-use crate::notation::{numbers, parse_clip, parse_shape, parse_writable, show_record, Writable};
+use crate::notation::{
+    narrow, numbers, parse_clip, parse_shape, parse_writable, show_record, Writable,
+};
 use reference::coverage::Fraction;
 use reference::refusal::Refused;
-use reference::shape::{Clip, Record, Shape};
+use reference::shape::{Basis, Clip, Record, Shape, PLAYERS};
 
 /// The state of a writer, the list included.
 #[derive(Clone, Debug, PartialEq, Eq)]
 pub struct Writing {
     pub list: Vec<u8>,
     pub place: usize,
-    pub width: u16,
-    pub height: u16,
+    pub basis: Basis,
 }
 
 /// A page and the settings for one shape on it.
@@ -39,19 +40,19 @@ pub fn queries(call: &str, ask: impl Fn(&Shape, i16, i16) -> Result<Fraction, Re
 
 pub fn draws(call: &str, draw: impl Fn(&mut ShapeCall) -> Result<u64, Refused>) -> String {
     let [sizes, clip, shape, level] = fields(call);
-    let [length, width, height]: [u16; 3] = numbers(sizes);
+    let [length, width, height]: [usize; 3] = numbers(sizes);
     let [level] = numbers(level);
-    let before = starting_page(length.into());
+    let before = starting_page(length);
     let mut call = ShapeCall {
         page: before.clone(),
-        width,
-        height,
+        width: narrow(width),
+        height: narrow(height),
         clip: parse_clip(clip),
         level,
         shape: parse_shape(shape),
     };
     match draw(&mut call) {
-        Ok(touched) => show_page(touched, &call.page),
+        Ok(touched) => show_page(&[touched], &call.page),
         Err(refusal) => refused(&refusal, call.page != before),
     }
 }
@@ -61,46 +62,56 @@ pub fn writes(
     write: impl Fn(&mut Writing, &Writable) -> Result<(), Refused>,
 ) -> String {
     let [state, what] = fields(call);
-    let [length, place, width, height]: [u16; 4] = numbers(state);
+    let [length, place, version, width, height]: [usize; 5] = numbers(state);
     let before = Writing {
-        list: vec![0xAA; length.into()],
-        place: place.into(),
-        width,
-        height,
+        list: vec![0xAA; length],
+        place,
+        basis: Basis {
+            version: narrow(version),
+            width: narrow(width),
+            height: narrow(height),
+        },
     };
     let mut after = before.clone();
     match write(&mut after, &parse_writable(what)) {
-        Ok(()) => {
-            let list = show_hex(&after.list);
-            format!("{} {} {} {list}", after.place, after.width, after.height)
-        }
+        Ok(()) => show_writing(&after),
         Err(refusal) => refused(&refusal, after != before),
     }
 }
 
 pub fn reads(
     call: &str,
-    read: impl Fn(&[u8], u16, u16) -> (Result<Record, Refused>, &[u8]),
+    read: impl Fn(&[u8], Basis) -> (Result<Record, Refused>, &[u8]),
 ) -> String {
-    let [sizes, hex] = fields(call);
-    let [width, height] = numbers(sizes);
+    let [basis, hex] = fields(call);
+    let [version, width, height] = numbers(basis);
     let bytes = parse_hex(hex);
-    let (record, rest) = read(&bytes, width, height);
+    let basis = Basis {
+        version,
+        width,
+        height,
+    };
+    let (record, rest) = read(&bytes, basis);
     match record {
         Ok(record) => format!("{} / {}", show_record(&record), show_hex(rest)),
         Err(refusal) => refused(&refusal, rest != bytes),
     }
 }
 
-pub fn lists(call: &str, draw: impl Fn(&[u8], &mut [u8]) -> Result<u64, Refused>) -> String {
+pub fn lists(
+    call: &str,
+    draw: impl Fn(&[u8], &mut [u8]) -> Result<[u64; PLAYERS], Refused>,
+) -> String {
     let [length, hex] = fields(call);
     let [length] = numbers(length);
     let before = starting_page(length);
     let mut page = before.clone();
     match draw(&parse_hex(hex), &mut page) {
-        Ok(touched) => show_page(touched, &page),
-        Err(refusal) if page != before => refused(&refusal, true),
-        Err(refusal) => format!("{} at {}", refused(&refusal, false), refusal.place),
+        Ok(touched) => show_page(&touched, &page),
+        Err(refusal) => {
+            let told = format!("refused {} at {}", refusal.number, refusal.place);
+            marked(told, page != before)
+        }
     }
 }
 
@@ -116,12 +127,29 @@ fn starting_page(length: usize) -> Vec<u8> {
     (0..length).map(|k| ((37 * k + 11) % 256) as u8).collect()
 }
 
-fn show_page(touched: u64, page: &[u8]) -> String {
-    let levels: String = page.iter().map(|byte| format!(" {byte}")).collect();
-    format!("{touched}{levels}")
+/// The counts, then the bytes.
+fn show_page(touched: &[u64], page: &[u8]) -> String {
+    let counts = touched.iter().copied();
+    let numbers = counts.chain(page.iter().map(|&byte| byte.into()));
+    let words: Vec<String> = numbers.map(|number| number.to_string()).collect();
+    words.join(" ")
+}
+
+fn show_writing(writing: &Writing) -> String {
+    let Basis {
+        version,
+        width,
+        height,
+    } = writing.basis;
+    let (place, list) = (writing.place, show_hex(&writing.list));
+    format!("{place} {version} {width} {height} {list}")
 }
 
 fn refused(refusal: &Refused, changed: bool) -> String {
-    let suffix = if changed { " changed" } else { "" };
-    format!("refused {}{suffix}", refusal.number)
+    marked(format!("refused {}", refusal.number), changed)
+}
+
+/// A refusal, and whether something that was lent or held is no longer as it was.
+fn marked(refusal: String, changed: bool) -> String {
+    refusal + if changed { " changed" } else { "" }
 }

@@ -321,7 +321,7 @@ fn stored_rows_agree() {
         let found = answer(&format!("draws {}", row.call));
         assert_eq!(found, row.answer, "{}", row.call);
     }
-    assert_eq!(rows.len(), 120);
+    assert_eq!(rows.len(), 180);
 }
 
 /// The answer and the page after one shape on a page of one level, under a whole clip.

@@ -1,4 +1,5 @@
-//! Drawing lists: the library's check and reader against the reference and against stored rows.
+//! Drawing lists of both versions: the library's check and reader against the reference and against
+//! stored rows.
 
 use checks::calls::answer;
 use checks::cases::rows;
@@ -10,19 +11,24 @@ use reference::format::{encode_header, encode_record, Header, HEADER_LENGTH, LON
 use reference::list::check;
 use reference::reader::read_record;
 use reference::refusal::Refused;
-use reference::shape::{Clip, Disc, Line, Record, Ring, Setting, Shape};
+use reference::shape::{Basis, Clip, Disc, Line, Record, Ring, Setting, Shape};
 
 const DAMAGED: u32 = 60_000;
 const RANDOM_BYTES: u32 = 60_000;
 /// Every refusal has to come up at least this often among the damaged lists.
 const LEAST: u32 = 100;
 
-const HEADER: Header = Header {
-    width: 20,
-    height: 16,
-    background: 9,
-};
+const VERSIONS: [u16; 2] = [1, 2];
 const PAGE: usize = 20 * 16;
+
+fn header(version: u16) -> Header {
+    Header {
+        version,
+        width: 20,
+        height: 16,
+        background: 9,
+    }
+}
 
 type Answer = Result<Header, Refused>;
 
@@ -39,15 +45,18 @@ fn checked(list: &[u8], page_length: usize) -> Answer {
 }
 
 /// Reads one record by both, and says how many bytes it has if it is not refused.
-fn read_length(bytes: &[u8], width: u16, height: u16) -> Option<usize> {
-    let expected = read_record(bytes, width, height);
-    let found = library::read_record(bytes, width, height);
-    assert_eq!(found, expected, "{width} by {height}: {bytes:02x?}");
-    expected.0.is_ok().then(|| bytes.len() - expected.1.len())
+fn read_length(bytes: &[u8], basis: Basis) -> Result<usize, u64> {
+    let expected = read_record(bytes, basis);
+    let found = library::read_record(bytes, basis);
+    assert_eq!(found, expected, "{basis:?}: {bytes:02x?}");
+    match expected {
+        (Ok(_), rest) => Ok(bytes.len() - rest.len()),
+        (Err(refusal), _) => Err(refusal.number),
+    }
 }
 
-/// One record of each kind, none of them refused on the page of `HEADER`.
-fn each_kind() -> Vec<Record> {
+/// One record of each kind that the version has, none of them refused on the page of its header.
+fn each_kind(version: u16) -> Vec<Record> {
     let line = |exact| {
         let (x0, y0, x1, y1) = (-4096, 4095, 7, -2);
         Shape::Line(Line {
@@ -71,15 +80,19 @@ fn each_kind() -> Vec<Record> {
         radius,
         width,
     };
-    vec![
+    let mut records = vec![
         Record::Setting(Setting::Clip(clip)),
         Record::Setting(Setting::Level(0)),
         Record::Shape(line(true)),
         Record::Shape(line(false)),
         Record::Shape(Shape::Disc(Disc { x, y, radius })),
         Record::Shape(Shape::Ring(ring)),
-        Record::End,
-    ]
+    ];
+    if version == 2 {
+        records.push(Record::Setting(Setting::Player(7)));
+    }
+    records.push(Record::End);
+    records
 }
 
 /// The bytes of a kind, of some numbers of two bytes, and of some of one byte.
@@ -91,8 +104,13 @@ fn bytes_of(kind: u8, words: &[i32], last: &[u8]) -> Vec<u8> {
 }
 
 /// Whole records with one thing refused in each, and its number.
-fn refused_records() -> Vec<(u64, Vec<u8>)> {
-    let mut records: Vec<(u64, Vec<u8>)> = (7..=255).map(|kind| (4, vec![kind])).collect();
+fn refused_records(version: u16) -> Vec<(u64, Vec<u8>)> {
+    let mut records: Vec<(u64, Vec<u8>)> = (8..=255).map(|kind| (4, vec![kind])).collect();
+    let player = |player| bytes_of(7, &[], &[player]);
+    match version {
+        1 => records.extend((0..=255).map(|next| (4, player(next)))),
+        _ => records.extend((8..=255).map(|next| (31, player(next)))),
+    }
     for outside in [-32768, -4097, 4096, 32767] {
         for changed in 0..4 {
             let mut ends = [1, 2, 1, 2];
@@ -118,13 +136,13 @@ fn refused_records() -> Vec<(u64, Vec<u8>)> {
     records
 }
 
-/// A list of these records, and the place of each.
-fn list_of(records: &[Record]) -> (Vec<u8>, Vec<usize>) {
-    let mut list = encode_header(&HEADER);
+/// A list of one record of each kind, and the place of each.
+fn list_of_each_kind(version: u16) -> (Vec<u8>, Vec<usize>) {
+    let mut list = encode_header(&header(version));
     let mut places = Vec::new();
-    for record in records {
+    for record in each_kind(version) {
         places.push(list.len());
-        list.extend(encode_record(record));
+        list.extend(encode_record(&record));
     }
     (list, places)
 }
@@ -136,57 +154,110 @@ fn stored_rows_agree() {
         let found = answer(&format!("reads {}", row.call));
         assert_eq!(found.trim(), row.answer, "{}", row.call);
     }
-    assert_eq!(rows.len(), 90);
+    assert_eq!(rows.len(), 194);
 }
 
 #[test]
 fn each_kind_cut_at_every_byte() {
-    for record in each_kind() {
-        let bytes = encode_record(&record);
-        for length in 0..bytes.len() {
-            let list = [encode_header(&HEADER), bytes[..length].to_vec()].concat();
-            assert_eq!(checked(&list, PAGE), refused(5, HEADER_LENGTH));
-            assert_eq!(read_length(&bytes[..length], 20, 16), None);
-        }
-        assert_eq!(read_length(&bytes, 20, 16), Some(bytes.len()));
-        for (width, height) in [(0, 16), (20, 0), (1025, 16), (20, 1025)] {
-            assert_eq!(read_length(&bytes, width, height), None);
+    for version in VERSIONS {
+        let header = header(version);
+        for record in each_kind(version) {
+            let bytes = encode_record(&record);
+            for length in 0..bytes.len() {
+                let list = [encode_header(&header), bytes[..length].to_vec()].concat();
+                assert_eq!(checked(&list, PAGE), refused(5, HEADER_LENGTH));
+                assert_eq!(read_length(&bytes[..length], header.basis()), Err(5));
+            }
+            assert_eq!(read_length(&bytes, header.basis()), Ok(bytes.len()));
         }
     }
 }
 
 #[test]
 fn a_mixed_list_cut_at_every_byte() {
-    let (list, places) = list_of(&each_kind());
-    assert_eq!(checked(&list, PAGE), Ok(HEADER));
-    for length in 0..list.len() {
-        let cut = places.iter().rfind(|&&place| place <= length);
-        let place = cut.copied().unwrap_or(0);
-        assert_eq!(checked(&list[..length], PAGE), refused(5, place));
+    for version in VERSIONS {
+        let (list, places) = list_of_each_kind(version);
+        assert_eq!(checked(&list, PAGE), Ok(header(version)));
+        for length in 0..list.len() {
+            let cut = places.iter().rfind(|&&place| place <= length);
+            let place = cut.copied().unwrap_or(0);
+            assert_eq!(checked(&list[..length], PAGE), refused(5, place));
+        }
     }
 }
 
 #[test]
 fn every_refusal_at_every_record() {
-    let (list, places) = list_of(&each_kind());
-    for (number, refused_record) in refused_records() {
-        for &place in &places {
-            // What follows the first refusal does not matter.
-            for behind in [&list[place..], &[0xFF; 20], &[]] {
-                let spoilt = [&list[..place], &refused_record, behind].concat();
-                assert_eq!(checked(&spoilt, PAGE), refused(number, place));
+    for version in VERSIONS {
+        let (list, places) = list_of_each_kind(version);
+        for (number, refused_record) in refused_records(version) {
+            for &place in &places {
+                // What follows the first refusal does not matter.
+                for behind in [&list[place..], &[0xFF; 20], &[]] {
+                    let spoilt = [&list[..place], &refused_record, behind].concat();
+                    assert_eq!(checked(&spoilt, PAGE), refused(number, place));
+                }
+            }
+            let basis = header(version).basis();
+            assert_eq!(read_length(&refused_record, basis), Err(number));
+        }
+    }
+}
+
+/// The reader tries 2, then 3, and only then looks at what it is lent.
+#[test]
+fn a_wrong_basis_comes_before_every_record() {
+    let mut lent: Vec<Vec<u8>> = each_kind(2).iter().map(encode_record).collect();
+    lent.extend(refused_records(2).into_iter().map(|(_, bytes)| bytes));
+    lent.push(Vec::new());
+    let sides = [(20, 16), (0, 16), (20, 0), (1025, 16), (20, 1025)];
+    for bytes in lent {
+        for version in [0, 1, 2, 3, 257, 258, u16::MAX] {
+            for (width, height) in sides {
+                let basis = Basis {
+                    version,
+                    width,
+                    height,
+                };
+                let found = read_length(&bytes, basis);
+                if !VERSIONS.contains(&version) {
+                    assert_eq!(found, Err(2));
+                } else if (width, height) != (20, 16) {
+                    assert_eq!(found, Err(3));
+                }
             }
         }
-        assert_eq!(read_length(&refused_record, 20, 16), None);
+    }
+}
+
+/// A player is unknown in version 1 whatever its byte, also where that byte is missing.
+#[test]
+fn a_player_is_a_record_of_version_2() {
+    for (version, bytes, number) in [
+        (1, &[7][..], 4),
+        (1, &[7, 0], 4),
+        (1, &[7, 8], 4),
+        (2, &[7], 5),
+        (2, &[7, 8], 31),
+        (2, &[7, 255, 0], 31),
+    ] {
+        let list = [&encode_header(&header(version)), bytes].concat();
+        assert_eq!(checked(&list, PAGE), refused(number, HEADER_LENGTH));
+        assert_eq!(read_length(bytes, header(version).basis()), Err(number));
+    }
+    for player in 0..=7 {
+        let list = [&encode_header(&header(2))[..], &[7, player, 0]].concat();
+        assert_eq!(checked(&list, PAGE), Ok(header(2)));
+        assert_eq!(read_length(&[7, player, 0], header(2).basis()), Ok(2));
     }
 }
 
 #[test]
 fn lists_about_the_greatest_length() {
     // Levels have two bytes and lines nine, so that with a line the length is even.
-    let line = encode_record(&each_kind()[2]);
+    let line = encode_record(&each_kind(2)[2]);
     for length in LONGEST_LIST - 1..=LONGEST_LIST + 1 {
-        let mut list = encode_header(&HEADER);
+        let mut list = encode_header(&header(2));
         if length % 2 == 0 {
             list.extend(&line);
         }
@@ -197,7 +268,7 @@ fn lists_about_the_greatest_length() {
         let too_long = length > LONGEST_LIST;
         let told = |answer| if too_long { refused(12, 0) } else { answer };
         assert_eq!(list.len(), length);
-        assert_eq!(checked(&list, PAGE), told(Ok(HEADER)));
+        assert_eq!(checked(&list, PAGE), told(Ok(header(2))));
         list[length - 1] = 2;
         assert_eq!(checked(&list, PAGE), told(refused(5, length - 1)));
         list[length - 3] = 0;
@@ -209,27 +280,29 @@ fn lists_about_the_greatest_length() {
 
 #[test]
 fn a_full_list_without_an_end() {
-    let mut list = encode_header(&HEADER);
+    let mut list = encode_header(&header(2));
     while list.len() < LONGEST_LIST {
-        list.extend([2, 77]);
+        list.extend([7, 7]);
     }
     assert_eq!(checked(&list, PAGE), refused(5, LONGEST_LIST));
 }
 
 #[test]
 fn surplus_bytes() {
-    let (list, _) = list_of(&each_kind());
-    for surplus in 1..40 {
-        for byte in [0, 2, 7, 0xFF] {
-            let longer = [list.clone(), vec![byte; surplus]].concat();
-            assert_eq!(checked(&longer, PAGE), refused(6, list.len()));
+    for version in VERSIONS {
+        let (list, _) = list_of_each_kind(version);
+        for surplus in 1..40 {
+            for byte in [0, 2, 7, 0xFF] {
+                let longer = [list.clone(), vec![byte; surplus]].concat();
+                assert_eq!(checked(&longer, PAGE), refused(6, list.len()));
+            }
         }
     }
 }
 
 #[test]
 fn wrong_marks_versions_and_sizes() {
-    let (list, _) = list_of(&each_kind());
+    let (list, _) = list_of_each_kind(2);
     let with = |place: usize, bytes: &[u8]| {
         let mut changed = list.clone();
         changed[place..place + bytes.len()].copy_from_slice(bytes);
@@ -240,8 +313,11 @@ fn wrong_marks_versions_and_sizes() {
             assert_eq!(checked(&with(place, &[byte]), 0), refused(1, 0));
         }
     }
-    for version in (0..=u16::MAX).filter(|&version| version != 1) {
+    for version in (0..=u16::MAX).filter(|version| !VERSIONS.contains(version)) {
         assert_eq!(checked(&with(3, &version.to_le_bytes()), 0), refused(2, 0));
+        let mut of_no_size = with(3, &version.to_le_bytes());
+        of_no_size[5..9].fill(0);
+        assert_eq!(checked(&of_no_size, 0), refused(2, 0));
     }
     for place in [5, 7] {
         for side in [0, 1025, u16::MAX] {
@@ -254,7 +330,7 @@ fn wrong_marks_versions_and_sizes() {
     for page_length in [0, PAGE - 1] {
         assert_eq!(checked(&list, page_length), refused(21, 0));
     }
-    assert_eq!(checked(&list, usize::MAX), Ok(HEADER));
+    assert_eq!(checked(&list, usize::MAX), Ok(header(2)));
 }
 
 #[test]
@@ -270,14 +346,15 @@ fn random_and_damaged_lists_agree() {
         }
         let page_length = random.pick(&[0, 39, 1600, 1 << 20, 1 << 20, 1 << 20]);
         let class = match checked(&list, page_length) {
-            Ok(_) => "accepted".to_string(),
+            Ok(header) => format!("version {} accepted", header.version),
             Err(refusal) => format!("refused {}", refusal.number),
         };
         tally.meet(vec![class]);
     }
-    let numbers = [1, 2, 3, 4, 5, 6, 7, 8, 9, 10, 11, 21];
+    let numbers = [1, 2, 3, 4, 5, 6, 7, 8, 9, 10, 11, 21, 31];
     tally.require(numbers.map(|n| format!("refused {n}")).into(), LEAST);
-    tally.require(vec!["accepted".to_string()], LEAST);
+    let accepted = VERSIONS.map(|version| format!("version {version} accepted"));
+    tally.require(accepted.into(), LEAST);
 }
 
 /// Reads damaged lists record by record, each from where the last one ended.
@@ -287,9 +364,13 @@ fn damaged_lists_read_alike() {
     for _ in 0..DAMAGED {
         let mut list = list(&mut random);
         damage(&mut random, &mut list);
-        let (width, height) = (random.between(1, 40) as u16, random.between(1, 40) as u16);
+        let basis = Basis {
+            version: random.pick(&[1, 2, 2, 2]),
+            width: random.between(1, 40) as u16,
+            height: random.between(1, 40) as u16,
+        };
         let mut place = HEADER_LENGTH.min(list.len());
-        while let Some(length) = read_length(&list[place..], width, height) {
+        while let Ok(length) = read_length(&list[place..], basis) {
             place += length;
         }
     }
@@ -302,9 +383,14 @@ fn random_bytes_agree() {
         let small = |random: &mut Random| random.between(0, 12) as u8;
         let length = random.between(0, 24);
         let bytes: Vec<u8> = (0..length).map(|_| small(&mut random)).collect();
-        let side = random.pick(&[1, 12, 1024, 1024, 1024, 0, 1025]);
-        read_length(&bytes, side, 1024);
-        let list = [encode_header(&HEADER), bytes.clone()].concat();
+        let version = random.pick(&VERSIONS);
+        let basis = Basis {
+            version: random.pick(&[version, version, version, 0, 3, 258]),
+            width: random.pick(&[1, 12, 1024, 1024, 1024, 0, 1025]),
+            height: 1024,
+        };
+        read_length(&bytes, basis).ok();
+        let list = [encode_header(&header(version)), bytes.clone()].concat();
         checked(&list, PAGE).ok();
         checked(&bytes, PAGE).ok();
     }

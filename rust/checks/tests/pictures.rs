@@ -1,12 +1,13 @@
 //! Whole lists drawn: the library against the reference on random and damaged lists and on stored
-//! ones, and each byte against the bound on its distance from the exact blend.
+//! ones, the counts of the players, and each byte against the bound on its distance from the exact
+//! blend.
 
 use checks::calls::answer;
 use checks::cases::{list_cases, rows};
 use checks::classes::{kind, Tally};
 use checks::library;
 use checks::listings::{damage, list};
-use checks::pictures::{page_for, picture, small_picture, Listed};
+use checks::pictures::{listed, page_for, picture, picture_of, small_picture, Listed};
 use checks::random::Random;
 use reference::exact::{bound, byte_after, exact_blend, touches_at, within, BigFraction, Touch};
 use reference::format::{encode_header, encode_record, Header, LONGEST_LIST};
@@ -14,11 +15,12 @@ use reference::list::{check, draw_list, Drawn};
 use reference::natural::Natural;
 use reference::page::page_length;
 use reference::refusal::Refused;
-use reference::shape::{Line, Record, Setting, Shape};
+use reference::shape::{Clip, Disc, Line, Record, Setting, Shape, PLAYERS};
 
 const PICTURES: u32 = 20_000;
 const DAMAGED: u32 = 20_000;
 const SMALL_PICTURES: u32 = 15_000;
+const SHARED_PICTURES: u32 = 4_000;
 /// Every class of input has to come up at least this often.
 const LEAST: u32 = 20;
 
@@ -46,6 +48,11 @@ fn drawn(list: &[u8], before: &[u8]) -> (Answer, Vec<u8>) {
     (found_answer, found)
 }
 
+/// The touches of all players.
+fn total(touched: &[u64; PLAYERS]) -> u64 {
+    touched.iter().sum()
+}
+
 /// The refusal, or what was drawn.
 fn classes(list: &[u8], before: &[u8], answer: &Answer) -> Vec<String> {
     let picture = match answer {
@@ -62,16 +69,26 @@ fn classes(list: &[u8], before: &[u8], answer: &Answer) -> Vec<String> {
     if before.len() > pixels {
         classes.push("surplus bytes".to_string());
     }
-    if picture.touched == 0 {
+    if total(&picture.touched) == 0 {
         classes.push("nothing touched".to_string());
     }
-    if picture.touched > pixels as u64 {
+    if total(&picture.touched) > pixels as u64 {
         classes.push("more touches than pixels".to_string());
     }
+    classes.extend(player_classes(&picture.touched));
+    classes.push(format!("version {}", accepted.header.version));
     classes.push(format!("{} shapes", accepted.drawings.len()));
     if picture.width == 1024 || picture.height == 1024 {
         classes.push("largest side".to_string());
     }
+    classes
+}
+
+/// Who touches a pixel, and how many do.
+fn player_classes(touched: &[u64; PLAYERS]) -> Vec<String> {
+    let touching = (0..PLAYERS).filter(|&player| touched[player] > 0);
+    let mut classes: Vec<String> = touching.map(|player| format!("player {player}")).collect();
+    classes.push(format!("{} players", classes.len()));
     classes
 }
 
@@ -86,7 +103,7 @@ fn stored_rows_agree() {
         let found = answer(&format!("lists {}", row.call));
         assert_eq!(found, row.answer, "{}", row.call);
     }
-    assert_eq!(rows.len(), 100);
+    assert_eq!(rows.len(), 190);
 }
 
 #[test]
@@ -103,12 +120,16 @@ fn random_lists_agree() {
     let mut random = Random::new(31);
     let mut tally = Tally::default();
     for _ in 0..PICTURES {
-        let Listed { header, list } = picture(&mut random);
+        let Listed { header, list, .. } = picture(&mut random);
         let page = page_for(&mut random, &header);
         let (answer, _) = drawn(&list, &page);
         tally.meet(classes(&list, &page, &answer));
     }
     tally.require(named(&["exact", "approximate", "disc", "ring"]), LEAST);
+    let players = (0..PLAYERS).map(|player| format!("player {player}"));
+    tally.require(players.collect(), LEAST);
+    tally.require(named(&["2 players", "3 players"]), LEAST);
+    tally.require(named(&["version 1", "version 2"]), LEAST);
     let others = [
         "refused 21",
         "surplus bytes",
@@ -126,7 +147,7 @@ fn list_and_page(random: &mut Random) -> (Vec<u8>, Vec<u8>) {
     if random.flip() {
         return (list(random), vec![0xAA; 1600]);
     }
-    let Listed { header, list } = picture(random);
+    let Listed { header, list, .. } = picture(random);
     (list, page_for(random, &header))
 }
 
@@ -146,9 +167,138 @@ fn damaged_lists_agree() {
     }
     let header_refusals = [5, 1, 2, 3, 21].map(|n| format!("refused {n}"));
     tally.require(header_refusals.into(), LEAST);
-    let record_refusals = [4, 5, 6, 7, 8, 9, 10, 11].map(|n| format!("refused {n} further on"));
+    let record_refusals = [4, 5, 6, 7, 8, 9, 10, 11, 31];
+    let record_refusals = record_refusals.map(|n| format!("refused {n} further on"));
     tally.require(record_refusals.into(), LEAST);
     tally.require(named(&["exact", "approximate", "disc", "ring"]), LEAST);
+}
+
+/// The counts and the page of a list that is not refused.
+fn accepted(listed: &Listed, page: &[u8]) -> ([u64; PLAYERS], Vec<u8>) {
+    let (answer, page) = drawn(&listed.list, page);
+    (answer.expect("a lawful list").touched, page)
+}
+
+/// A page of random bytes that the list fits.
+fn large_page_for(random: &mut Random, header: &Header) -> Vec<u8> {
+    let pixels = page_length(header.width, header.height);
+    let length = pixels + random.between(0, 3) as usize;
+    (0..length).map(|_| random.bits() as u8).collect()
+}
+
+#[test]
+fn a_list_of_version_1_is_drawn_as_the_same_records_of_version_2() {
+    let mut random = Random::new(34);
+    let mut tally = Tally::default();
+    for _ in 0..SHARED_PICTURES {
+        let older = picture_of(&mut random, 1);
+        let header = Header {
+            version: 2,
+            ..older.header
+        };
+        let newer = listed(header, older.records.clone());
+        assert_eq!(older.list[5..], newer.list[5..]);
+        let page = large_page_for(&mut random, &header);
+        let (touched, left) = accepted(&older, &page);
+        assert_eq!(accepted(&newer, &page), (touched, left));
+        assert_eq!(total(&touched), touched[0], "{:02x?}", older.list);
+        tally.meet(player_classes(&touched));
+    }
+    tally.require(named(&["0 players", "1 players"]), LEAST);
+}
+
+/// The same list without its players has the same page, and all touches on player 0.
+#[test]
+fn players_move_no_byte_and_share_the_touches() {
+    let mut random = Random::new(35);
+    let mut tally = Tally::default();
+    for _ in 0..SHARED_PICTURES {
+        let shared = picture_of(&mut random, 2);
+        let mut records = shared.records.clone();
+        records.retain(|record| !matches!(record, Record::Setting(Setting::Player(_))));
+        let alone = listed(shared.header, records);
+        let page = large_page_for(&mut random, &shared.header);
+        let (touched, left) = accepted(&shared, &page);
+        let (of_one, same) = accepted(&alone, &page);
+        assert!(left == same, "{:02x?}", shared.list);
+        let mut on_player_0 = [0; PLAYERS];
+        on_player_0[0] = total(&touched);
+        assert_eq!(of_one, on_player_0, "{:02x?}", shared.list);
+        tally.meet(player_classes(&touched));
+    }
+    tally.require(named(&["0 players", "1 players", "3 players"]), LEAST);
+}
+
+/// The records without the shapes of all players but one.
+fn own_records(records: &[Record], own: u8) -> Vec<Record> {
+    let mut player = 0;
+    let mut kept = Vec::new();
+    for &record in records {
+        if let Record::Setting(Setting::Player(next)) = record {
+            player = next;
+        }
+        if player == own || !matches!(record, Record::Shape(_)) {
+            kept.push(record);
+        }
+    }
+    kept
+}
+
+#[test]
+fn each_count_is_that_of_the_players_own_shapes() {
+    let mut random = Random::new(36);
+    let mut tally = Tally::default();
+    for _ in 0..SHARED_PICTURES {
+        let shared = picture_of(&mut random, 2);
+        let page = large_page_for(&mut random, &shared.header);
+        let (touched, _) = accepted(&shared, &page);
+        for own in 0..PLAYERS {
+            let records = own_records(&shared.records, own as u8);
+            let mut page = page.clone();
+            let alone = library::draw_list(&listed(shared.header, records).list, &mut page);
+            let mut expected = [0; PLAYERS];
+            expected[own] = touched[own];
+            assert_eq!(alone.map(|drawn| drawn.touched), Ok(expected));
+        }
+        tally.meet(player_classes(&touched));
+    }
+    let players = (0..PLAYERS).map(|player| format!("player {player}"));
+    tally.require(players.collect(), LEAST);
+    tally.require(named(&["2 players", "3 players"]), LEAST);
+}
+
+/// Neither a clip nor a level sets the player back, nor a player one of them.
+#[test]
+fn a_player_is_in_force_until_the_next() {
+    let header = Header {
+        version: 2,
+        width: 4,
+        height: 3,
+        background: 0,
+    };
+    // It touches four pixels, half of each, and two of them lie in the first column.
+    let disc = Record::Shape(Shape::Disc(Disc {
+        x: 1,
+        y: 1,
+        radius: 1,
+    }));
+    let player = |player| Record::Setting(Setting::Player(player));
+    let level = |level| Record::Setting(Setting::Level(level));
+    let columns = |x1| {
+        let clip = Clip {
+            x1,
+            ..Clip::whole(4, 3)
+        };
+        Record::Setting(Setting::Clip(clip))
+    };
+    let first = [disc, player(3), columns(1), disc, level(0), disc];
+    let then = [player(7), disc, player(7), columns(4), level(100), disc];
+    let last = [player(0), disc, player(3), disc, player(5)];
+    let list = listed(header, [&first[..], &then, &last].concat());
+    let (touched, page) = accepted(&list, &[9; 12]);
+    assert_eq!(touched, [8, 0, 0, 8, 0, 0, 0, 6]);
+    // The first column: half of 255, of 255, of 0, of 0, then three halves of 100.
+    assert_eq!(page, [94, 104, 0, 0, 94, 104, 0, 0, 0, 0, 0, 0]);
 }
 
 /// One pixel, levels to fill the list, and a line that covers half of the pixel.
@@ -162,6 +312,7 @@ fn lists_about_the_greatest_length() {
         y1: 0,
     })));
     let header = Header {
+        version: 2,
         width: 1,
         height: 1,
         background: 0,
@@ -210,12 +361,12 @@ fn every_byte_is_within_the_bound() {
     let mut random = Random::new(33);
     let mut tally = Tally::default();
     for _ in 0..SMALL_PICTURES {
-        let Listed { header, list } = small_picture(&mut random);
+        let Listed { header, list, .. } = small_picture(&mut random);
         let width = usize::from(header.width);
         let mut page = vec![0xAA; page_length(header.width, header.height)];
         let accepted = check(&list, page.len()).expect("a lawful list");
         let picture = library::draw_list(&list, &mut page).expect("a lawful list");
-        let mut touched = 0;
+        let mut touched = [0; PLAYERS];
         for (k, &byte) in page.iter().enumerate() {
             let touches = touches_at(&accepted, (k % width) as u16, (k / width) as u16);
             let exact = exact_blend(header.background, &touches);
@@ -225,7 +376,9 @@ fn every_byte_is_within_the_bound() {
             );
             assert_eq!(byte, byte_after(header.background, &touches));
             tally.meet(byte_classes(byte, header.background, &touches));
-            touched += touches.len() as u64;
+            for touch in touches {
+                touched[usize::from(touch.player)] += 1;
+            }
         }
         assert_eq!(picture.touched, touched);
     }
@@ -245,6 +398,7 @@ fn every_byte_is_within_the_bound() {
 #[test]
 fn a_diagonal_reaches_the_bound() {
     let header = Header {
+        version: 2,
         width: 1,
         height: 1,
         background: 255,

@@ -6,6 +6,7 @@ use checks::rows::{self as answers, ShapeCall};
 use reference::exact::{bound, byte_after, exact_blend, touches_at, within};
 use reference::list::{check, draw_list, Accepted};
 use reference::refusal::Refused;
+use reference::shape::PLAYERS;
 use reference::{coverage, page, print, reader};
 
 fn draw(call: &mut ShapeCall) -> Result<u64, Refused> {
@@ -42,7 +43,7 @@ fn every_row_of_every_table() {
             count += 1;
         }
     }
-    assert_eq!(count, 240 + 120 + 117 + 90 + 100);
+    assert_eq!(count, 291 + 180 + 215 + 194 + 190);
 }
 
 #[test]
@@ -51,7 +52,7 @@ fn every_printed_list() {
     for case in &cases {
         assert_eq!(print::print(&case.list), case.output, "{}", case.name);
     }
-    assert_eq!(cases.len(), 45);
+    assert_eq!(cases.len(), 54);
 }
 
 /// Each byte is the fold over its touches, and lies within the bound of the exact blend.
@@ -59,14 +60,16 @@ fn hold_to_exact(accepted: &Accepted, list: &[u8]) {
     let header = accepted.header;
     let mut page = vec![0; page::page_length(header.width, header.height)];
     let drawn = draw_list(list, &mut page).expect("the list was accepted");
-    let mut touched = 0;
+    let mut touched = [0; PLAYERS];
     for (k, &byte) in page.iter().enumerate() {
         let width = usize::from(header.width);
         let touches = touches_at(accepted, (k % width) as u16, (k / width) as u16);
         let exact = exact_blend(header.background, &touches);
         assert_eq!(byte, byte_after(header.background, &touches));
         assert!(within(byte, &exact, &bound(&touches)), "byte {k}");
-        touched += touches.len() as u64;
+        for touch in touches {
+            touched[usize::from(touch.player)] += 1;
+        }
     }
     assert_eq!(drawn.touched, touched);
 }
@@ -80,5 +83,5 @@ fn accepted_lists_keep_the_bound() {
             accepted_lists += 1;
         }
     }
-    assert_eq!(accepted_lists, 31);
+    assert_eq!(accepted_lists, 34);
 }

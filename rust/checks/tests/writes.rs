@@ -1,20 +1,22 @@
-//! The writer: the library against the reference on random states, and on the stored rows.
+//! The writer: the library against the reference on random states and on the stored rows, and both
+//! round trips in both versions.
 
 use checks::calls::answer;
 use checks::cases::rows;
 use checks::classes::Tally;
 use checks::library;
-use checks::listings::{header, lawful_record, record};
+use checks::listings::{header, lawful_record, list, record};
 use checks::notation::Writable;
 use checks::random::Random;
 use checks::reference_writer::write;
 use checks::rows::Writing;
-use reference::format::{HEADER_LENGTH, LONGEST_LIST};
+use reference::format::{Header, HEADER_LENGTH, LONGEST_LIST};
 use reference::list::check;
-use reference::shape::Record;
+use reference::shape::{Basis, Clip, Record, Setting};
 
 const WRITES: u32 = 200_000;
-const LISTS: u32 = 2_000;
+const LISTS: u32 = 4_000;
+const LARGEST_PAGE: usize = 1024 * 1024;
 /// Every refusal, and every accepted kind, has to come up at least this often.
 const LEAST: u32 = 100;
 
@@ -43,12 +45,11 @@ fn far_off(random: &mut Random, length: i64) -> Writing {
 }
 
 fn writing(random: &mut Random, length: i64, place: usize) -> Writing {
-    let held = header(random);
+    let basis = header(random).basis();
     Writing {
         list: (0..length).map(|_| random.bits() as u8).collect(),
         place,
-        width: held.width,
-        height: held.height,
+        basis,
     }
 }
 
@@ -67,7 +68,9 @@ fn class(what: &Writable, outcome: Result<(), u64>) -> String {
     let what = match what {
         Writable::Header(_) => "header",
         Writable::Record(Record::End) => "end",
-        Writable::Record(Record::Setting(_)) => "setting",
+        Writable::Record(Record::Setting(Setting::Clip(_))) => "clip",
+        Writable::Record(Record::Setting(Setting::Level(_))) => "level",
+        Writable::Record(Record::Setting(Setting::Player(_))) => "player",
         Writable::Record(Record::Shape(_)) => "shape",
     };
     match outcome {
@@ -83,7 +86,7 @@ fn stored_rows_agree() {
         let found = answer(&format!("writes {}", row.call));
         assert_eq!(found.trim(), row.answer, "{}", row.call);
     }
-    assert_eq!(rows.len(), 117);
+    assert_eq!(rows.len(), 215);
 }
 
 #[test]
@@ -92,32 +95,141 @@ fn random_writes_agree() {
     let mut tally = Tally::default();
     for _ in 0..WRITES {
         let mut state = state(&mut random);
-        let (place, width, height) = (state.place, state.width, state.height);
+        let (place, basis) = (state.place, state.basis);
         let what = match random.between(0, 4) {
             0 => Writable::Header(header(&mut random)),
-            _ => Writable::Record(record(&mut random, width, height)),
+            _ => Writable::Record(record(&mut random, basis)),
         };
         let outcome = written(&mut state, &what);
         if let (Ok(()), Writable::Record(record)) = (outcome, what) {
-            let (read, rest) = library::read_record(&state.list[place..], width, height);
+            let (read, rest) = library::read_record(&state.list[place..], basis);
             assert_eq!((read, rest), (Ok(record), &state.list[state.place..]));
         }
         tally.meet(vec![class(&what, outcome)]);
     }
-    for what in ["header", "end", "setting", "shape"] {
-        let outcomes = ["written", "refused 3", "refused 22"];
+    for what in ["header", "end", "clip", "level", "player", "shape"] {
+        let outcomes = ["written", "refused 2", "refused 3", "refused 22"];
         tally.require(outcomes.map(|o| format!("{what} {o}")).into(), LEAST);
     }
     let refusals = [7, 9, 10, 11].map(|number| format!("shape refused {number}"));
     tally.require(refusals.into(), LEAST);
-    tally.require(vec!["setting refused 8".to_string()], LEAST);
+    let refusals = ["clip refused 8", "player refused 4", "player refused 31"];
+    tally.require(refusals.map(String::from).into(), LEAST);
+}
+
+/// A writer past the header of a list of twenty bytes.
+fn past_the_header(version: u16, width: u16) -> Writing {
+    Writing {
+        list: vec![0xAA; 20],
+        place: HEADER_LENGTH,
+        basis: Basis {
+            version,
+            width,
+            height: 16,
+        },
+    }
+}
+
+/// Takes the faults away one by one: 2, 3, 4, 31, 22.
+#[test]
+fn refusals_of_a_player_come_in_their_order() {
+    let no_room = LONGEST_LIST;
+    for (version, width, player, place, outcome) in [
+        (3, 0, 8, no_room, Err(2)),
+        (1, 0, 8, no_room, Err(3)),
+        (1, 20, 8, no_room, Err(4)),
+        (2, 20, 8, no_room, Err(31)),
+        (2, 20, 7, no_room, Err(22)),
+        (2, 20, 7, HEADER_LENGTH, Ok(())),
+    ] {
+        let mut state = past_the_header(version, width);
+        state.place = place;
+        let what = Writable::Record(Record::Setting(Setting::Player(player)));
+        assert_eq!(written(&mut state, &what), outcome);
+    }
+}
+
+/// What a header says of itself is tried, not what the writer holds; of a record it is the other
+/// way round.
+#[test]
+fn the_version_is_taken_with_the_header_and_held() {
+    let off_the_page = Record::Setting(Setting::Clip(Clip {
+        x0: 0,
+        y0: 0,
+        x1: 21,
+        y1: 16,
+    }));
+    let player = Record::Setting(Setting::Player(0));
+    for (version, of_a_player) in [(1, Err(4)), (2, Ok(()))] {
+        for held in [0, 1, 2, u16::MAX] {
+            let mut state = past_the_header(held, 0);
+            let header = Header {
+                version,
+                width: 20,
+                height: 16,
+                background: 9,
+            };
+            assert_eq!(written(&mut state, &Writable::Header(header)), Ok(()));
+            assert_eq!(state.basis, header.basis());
+            assert_eq!(state.list[3..5], [version as u8, 0]);
+            let of_a_clip = written(&mut state, &Writable::Record(off_the_page));
+            assert_eq!(of_a_clip, Err(8));
+            let found = written(&mut state, &Writable::Record(player));
+            assert_eq!(found, of_a_player);
+            let wrong = Header {
+                version: 3,
+                width: 0,
+                ..header
+            };
+            assert_eq!(written(&mut state, &Writable::Header(wrong)), Err(2));
+            assert_eq!(state.basis, header.basis());
+        }
+    }
+}
+
+/// The bytes that an accepted list's own header and records are written as.
+fn written_again(list: &[u8], header: Header) -> Vec<u8> {
+    let mut state = Writing {
+        list: vec![0xAA; list.len()],
+        place: 0,
+        basis: Basis {
+            version: 0,
+            width: 0,
+            height: 0,
+        },
+    };
+    assert_eq!(written(&mut state, &Writable::Header(header)), Ok(()));
+    let mut rest = &list[HEADER_LENGTH..];
+    while !rest.is_empty() {
+        let (record, past) = library::read_record(rest, header.basis());
+        let record = record.expect("no record of an accepted list is refused");
+        assert_eq!(written(&mut state, &Writable::Record(record)), Ok(()));
+        rest = past;
+    }
+    assert_eq!(state.place, list.len());
+    state.list
+}
+
+#[test]
+fn accepted_lists_written_again_are_their_own_bytes() {
+    let mut random = Random::new(12);
+    let mut tally = Tally::default();
+    for _ in 0..LISTS {
+        let list = list(&mut random);
+        if let Ok(header) = library::check_list(&list, LARGEST_PAGE) {
+            assert_eq!(written_again(&list, header), list);
+            tally.meet(vec![format!("version {}", header.version)]);
+        }
+    }
+    let versions = ["version 1", "version 2"].map(String::from);
+    tally.require(versions.into(), LEAST);
 }
 
 /// A header and records until one does not fit, then an end record if there is room for it.
 #[test]
 fn written_lists_are_accepted() {
     let mut random = Random::new(11);
-    let mut accepted = 0;
+    let mut tally = Tally::default();
     for _ in 0..LISTS {
         let length = random.between(HEADER_LENGTH as i64 + 1, 300);
         let mut state = writing(&mut random, length, 0);
@@ -126,20 +238,19 @@ fn written_lists_are_accepted() {
             continue;
         }
         loop {
-            let record = lawful_record(&mut random, header.width, header.height);
+            let record = lawful_record(&mut random, header.basis());
             if written(&mut state, &Writable::Record(record)).is_err() {
                 break;
             }
         }
         if written(&mut state, &Writable::Record(Record::End)).is_ok() {
             let list = &state.list[..state.place];
-            assert_eq!(library::check_list(list, 1 << 20), Ok(header));
-            assert_eq!(check(list, 1 << 20).map(|told| told.header), Ok(header));
-            accepted += 1;
+            assert_eq!(library::check_list(list, LARGEST_PAGE), Ok(header));
+            let told = check(list, LARGEST_PAGE).map(|told| told.header);
+            assert_eq!(told, Ok(header));
+            tally.meet(vec![format!("version {}", header.version)]);
         }
     }
-    assert!(
-        accepted >= LEAST,
-        "only {accepted} lists were written whole"
-    );
+    let versions = ["version 1", "version 2"].map(String::from);
+    tally.require(versions.into(), LEAST);
 }

@@ -3,7 +3,7 @@
 //! Each answer begins with the refusal, 0 for none, and its place. After a refusal the further
 //! fields are 0, but for those of [`WriteAnswer`].
 
-use crate::{Clip, Disc, Line, Ring, Shape};
+use crate::{Basis, Clip, Disc, Line, Ring, Shape, PLAYERS};
 
 /// A shape: its kind byte in a list, and its numbers in the order of the record's fields.
 #[repr(C)]
@@ -20,6 +20,15 @@ pub struct GivenClip {
     pub y0: u32,
     pub x1: u32,
     pub y1: u32,
+}
+
+/// What records are read and written against.
+#[repr(C)]
+#[derive(Clone, Copy)]
+pub struct GivenBasis {
+    pub version: u32,
+    pub w: u32,
+    pub h: u32,
 }
 
 impl From<Shape> for GivenShape {
@@ -58,6 +67,16 @@ impl From<Clip> for GivenClip {
     }
 }
 
+impl From<Basis> for GivenBasis {
+    fn from(basis: Basis) -> GivenBasis {
+        GivenBasis {
+            version: basis.version.into(),
+            w: basis.size.width.into(),
+            h: basis.size.height.into(),
+        }
+    }
+}
+
 /// A fraction n over d.
 #[repr(C)]
 pub struct CoverageAnswer {
@@ -90,29 +109,28 @@ pub struct ReadAnswer {
 pub struct CheckAnswer {
     pub refusal: u32,
     pub place: usize,
-    pub w: u32,
-    pub h: u32,
+    pub basis: GivenBasis,
     pub background: u8,
 }
 
-/// The page's size and how many touches were made.
+/// The page's size and how many touches each player made.
 #[repr(C)]
 pub struct ListAnswer {
     pub refusal: u32,
     pub place: usize,
     pub w: u32,
     pub h: u32,
-    pub touched: u64,
+    pub touched: [u64; PLAYERS],
 }
 
-/// Where the next record goes and the page's size, from now on; after a refusal as they were given.
+/// Where the next record goes and what it is written against, from now on; after a refusal as they
+/// were given.
 #[repr(C)]
 pub struct WriteAnswer {
     pub refusal: u32,
     pub place: usize,
     pub next: usize,
-    pub w: u32,
-    pub h: u32,
+    pub basis: GivenBasis,
 }
 
 // The query takes plain numbers by value and has no precondition, so it is safe to call.
@@ -140,8 +158,7 @@ extern "C" {
     pub fn greystroke_read_record(
         list: *const u8,
         list_length: usize,
-        w: u32,
-        h: u32,
+        basis: GivenBasis,
     ) -> ReadAnswer;
     pub fn greystroke_check_list(list: *const u8, list_length: usize, page: usize) -> CheckAnswer;
 }
@@ -158,47 +175,48 @@ extern "C" {
 }
 
 // Safe to call if the list is a slice that nothing else reads or writes meanwhile; any place and
-// any size may go with it.
+// any basis may go with it. A header is handed the basis that the writer holds, then its own.
 extern "C" {
     pub fn greystroke_write_header(
         list: *mut u8,
         list_length: usize,
         place: usize,
-        w: u32,
-        h: u32,
-        width: u32,
-        height: u32,
+        held: GivenBasis,
+        basis: GivenBasis,
         background: u8,
     ) -> WriteAnswer;
     pub fn greystroke_write_end(
         list: *mut u8,
         list_length: usize,
         place: usize,
-        w: u32,
-        h: u32,
+        basis: GivenBasis,
     ) -> WriteAnswer;
     pub fn greystroke_write_clip(
         list: *mut u8,
         list_length: usize,
         place: usize,
-        w: u32,
-        h: u32,
+        basis: GivenBasis,
         clip: GivenClip,
     ) -> WriteAnswer;
     pub fn greystroke_write_level(
         list: *mut u8,
         list_length: usize,
         place: usize,
-        w: u32,
-        h: u32,
+        basis: GivenBasis,
         level: u8,
+    ) -> WriteAnswer;
+    pub fn greystroke_write_player(
+        list: *mut u8,
+        list_length: usize,
+        place: usize,
+        basis: GivenBasis,
+        player: u8,
     ) -> WriteAnswer;
     pub fn greystroke_write_shape(
         list: *mut u8,
         list_length: usize,
         place: usize,
-        w: u32,
-        h: u32,
+        basis: GivenBasis,
         shape: GivenShape,
     ) -> WriteAnswer;
 }

@@ -4,7 +4,8 @@
 //! the corners (x, y) and (x + 1, y + 1). [`draw_shape`] blends a shape into a lent page, one byte
 //! a pixel. [`coverage`] tells the share of one pixel that a shape covers, as a fraction that is
 //! not reduced. A drawing list holds many shapes as bytes: [`Writer`] makes one, [`read_record`]
-//! reads it record by record, [`check_list`] tries it whole, and [`draw_list`] draws it.
+//! reads it record by record, [`check_list`] tries it whole, and [`draw_list`] draws it and counts
+//! what each player's shapes touch.
 //!
 //! ```
 //! use greystroke::{coverage, draw_shape, Clip, Fraction, Line, Refusal, Shape, Size};
@@ -29,7 +30,9 @@ mod shape;
 
 pub use coverage::{coverage, Fraction};
 pub use drawing::{draw_shape, Clip, Size};
-pub use list::{check_list, read_record, Header, ListRefusal, Record, Setting, Writer};
-pub use picture::{draw_list, Picture};
+pub use list::{
+    check_list, read_record, Basis, Header, ListRefusal, Record, Setting, Writer, LATEST_VERSION,
+};
+pub use picture::{draw_list, Picture, PLAYERS};
 pub use refusal::Refusal;
 pub use shape::{Disc, Line, Ring, Shape};

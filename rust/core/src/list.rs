@@ -2,18 +2,40 @@
 
 use crate::boundary::{
     greystroke_check_list, greystroke_read_record, greystroke_write_clip, greystroke_write_end,
-    greystroke_write_header, greystroke_write_level, greystroke_write_shape, ReadAnswer,
-    WriteAnswer,
+    greystroke_write_header, greystroke_write_level, greystroke_write_player,
+    greystroke_write_shape, GivenBasis, ReadAnswer, WriteAnswer,
 };
 use crate::{Clip, Disc, Line, Refusal, Ring, Shape, Size};
 use std::error::Error;
 use std::fmt::{self, Debug, Display, Formatter};
 
-/// What a list says of its page.
+/// The version to write: it has every kind of record. Lists of version 1, which have no
+/// [`Setting::Player`], are read and written too.
+pub const LATEST_VERSION: u16 = 2;
+
+/// What records are read and written against: the version of their list, and the size of its page.
+#[derive(Clone, Copy, Debug, PartialEq, Eq)]
+pub struct Basis {
+    pub version: u16,
+    pub size: Size,
+}
+
+/// What a list says of itself and its page.
 #[derive(Clone, Copy, Debug, PartialEq, Eq)]
 pub struct Header {
+    pub version: u16,
     pub size: Size,
     pub background: u8,
+}
+
+impl Header {
+    /// What the records behind this header are read and written against.
+    pub fn basis(self) -> Basis {
+        Basis {
+            version: self.version,
+            size: self.size,
+        }
+    }
 }
 
 /// In force for the shapes that follow, until the next of its kind.
@@ -21,6 +43,8 @@ pub struct Header {
 pub enum Setting {
     Clip(Clip),
     Level(u8),
+    /// Who owns the shapes, 0 to 7.
+    Player(u8),
 }
 
 /// One entry of a list.
@@ -46,26 +70,32 @@ impl Display for ListRefusal {
 
 impl Error for ListRefusal {}
 
-/// The record at the front of some bytes, for a page of this size, and the bytes past it.
+/// The record at the front of some bytes, in a list of this version and page, and the bytes past
+/// it.
 ///
 /// # Errors
 ///
-/// The first that applies of [`Refusal::PageSize`], [`Refusal::CutShort`] where there is no byte,
-/// [`Refusal::UnknownKind`], [`Refusal::CutShort`], and then what the record itself earns of
-/// [`Refusal::Coordinate`] to [`Refusal::RingWidth`].
+/// The first that applies of [`Refusal::WrongVersion`], [`Refusal::PageSize`],
+/// [`Refusal::CutShort`] where there is no byte, [`Refusal::UnknownKind`], [`Refusal::CutShort`],
+/// and then what the record itself earns of [`Refusal::Coordinate`] to [`Refusal::RingWidth`] and
+/// [`Refusal::Player`].
 ///
 /// ```
-/// use greystroke::{read_record, Record, Refusal, Setting, Size};
+/// use greystroke::{read_record, Basis, Record, Refusal, Setting, Size};
 ///
 /// let size = Size { width: 4, height: 3 };
-/// let level = Record::Setting(Setting::Level(9));
-/// assert_eq!(read_record(&[2, 9, 0], size), Ok((level, &[0][..])));
-/// assert_eq!(read_record(&[2], size), Err(Refusal::CutShort));
+/// let basis = Basis { version: 2, size };
+/// let player = Record::Setting(Setting::Player(5));
+/// assert_eq!(read_record(&[7, 5, 0], basis), Ok((player, &[0][..])));
+/// assert_eq!(read_record(&[7], basis), Err(Refusal::CutShort));
+/// assert_eq!(read_record(&[7, 8], basis), Err(Refusal::Player));
+///
+/// let older = Basis { version: 1, size };
+/// assert_eq!(read_record(&[7, 5, 0], older), Err(Refusal::UnknownKind));
 /// ```
-pub fn read_record(bytes: &[u8], size: Size) -> Result<(Record, &[u8]), Refusal> {
-    let (w, h) = (size.width.into(), size.height.into());
+pub fn read_record(bytes: &[u8], basis: Basis) -> Result<(Record, &[u8]), Refusal> {
     // SAFETY: the bytes are a slice, and all else are plain numbers by value.
-    let answer = unsafe { greystroke_read_record(bytes.as_ptr(), bytes.len(), w, h) };
+    let answer = unsafe { greystroke_read_record(bytes.as_ptr(), bytes.len(), basis.into()) };
     accepted_call(answer.refusal, answer.place)?;
     Ok((record_of(&answer), &bytes[answer.size..]))
 }
@@ -80,9 +110,9 @@ pub fn read_record(bytes: &[u8], size: Size) -> Result<(Record, &[u8]), Refusal>
 /// ```
 /// use greystroke::{check_list, Header, ListRefusal, Refusal, Size};
 ///
-/// let list = *b"INK\x01\x00\x04\x00\x03\x00\x09\x00";
+/// let list = *b"INK\x02\x00\x04\x00\x03\x00\x09\x00";
 /// let size = Size { width: 4, height: 3 };
-/// assert_eq!(check_list(&list, 12), Ok(Header { size, background: 9 }));
+/// assert_eq!(check_list(&list, 12), Ok(Header { version: 2, size, background: 9 }));
 ///
 /// let missing_end = ListRefusal { refusal: Refusal::CutShort, place: 10 };
 /// assert_eq!(check_list(&list[..10], 12), Err(missing_end));
@@ -91,23 +121,27 @@ pub fn check_list(list: &[u8], page_length: usize) -> Result<Header, ListRefusal
     // SAFETY: the list is a slice, and the page's length is a plain number by value.
     let answer = unsafe { greystroke_check_list(list.as_ptr(), list.len(), page_length) };
     accepted_list(answer.refusal, answer.place)?;
+    let Basis { version, size } = basis_of(answer.basis);
     Ok(Header {
-        size: size_of(answer.w, answer.h),
+        version,
+        size,
         background: answer.background,
     })
 }
 
-/// A list being written into lent bytes, the place reached, and the size of its page. Any place
-/// and any size may be set: what does not fit them is refused.
+/// A list being written into lent bytes, the place reached, and what records are written against.
+/// Any place and any basis may be set: what does not fit them is refused.
 ///
 /// ```
-/// use greystroke::{check_list, Header, Record, Refusal, Setting, Size, Writer};
+/// use greystroke::{check_list, Header, Record, Refusal, Setting, Size, Writer, LATEST_VERSION};
 ///
-/// let header = Header { size: Size { width: 4, height: 3 }, background: 9 };
+/// let size = Size { width: 4, height: 3 };
+/// let header = Header { version: LATEST_VERSION, size, background: 9 };
 /// let mut list = [0xAA; 13];
 /// let mut writer = Writer::new(&mut list);
 /// assert_eq!(writer.write_header(header), Ok(()));
-/// assert_eq!(writer.write_record(Record::Setting(Setting::Level(7))), Ok(()));
+/// assert_eq!(writer.write_record(Record::Setting(Setting::Player(8))), Err(Refusal::Player));
+/// assert_eq!(writer.write_record(Record::Setting(Setting::Player(7))), Ok(()));
 /// assert_eq!(writer.write_record(Record::End), Ok(()));
 /// assert_eq!(writer.write_record(Record::End), Err(Refusal::NoRoom));
 /// assert_eq!(writer.place, 13);
@@ -117,7 +151,7 @@ pub fn check_list(list: &[u8], page_length: usize) -> Result<Header, ListRefusal
 pub struct Writer<'a> {
     pub list: &'a mut [u8],
     pub place: usize,
-    pub size: Size,
+    pub basis: Basis,
 }
 
 impl<'a> Writer<'a> {
@@ -130,7 +164,7 @@ impl<'a> Writer<'a> {
         Writer {
             list,
             place: 0,
-            size,
+            basis: Basis { version: 0, size },
         }
     }
 
@@ -138,23 +172,14 @@ impl<'a> Writer<'a> {
     ///
     /// # Errors
     ///
-    /// [`Refusal::PageSize`] of the header, then [`Refusal::NoRoom`]. Nothing is changed then.
+    /// [`Refusal::WrongVersion`] and [`Refusal::PageSize`] of the header, then
+    /// [`Refusal::NoRoom`]. Nothing is changed then.
     pub fn write_header(&mut self, header: Header) -> Result<(), Refusal> {
         let (list, length) = (self.list.as_mut_ptr(), self.list.len());
-        let (w, h) = self.sides();
-        let (width, height) = (header.size.width.into(), header.size.height.into());
+        let (held, basis) = (self.basis.into(), header.basis().into());
         // SAFETY: the list is a slice of its own, and all else are plain numbers by value.
         let answer = unsafe {
-            greystroke_write_header(
-                list,
-                length,
-                self.place,
-                w,
-                h,
-                width,
-                height,
-                header.background,
-            )
+            greystroke_write_header(list, length, self.place, held, basis, header.background)
         };
         self.take(answer)
     }
@@ -163,40 +188,38 @@ impl<'a> Writer<'a> {
     ///
     /// # Errors
     ///
-    /// The first that applies of [`Refusal::PageSize`] of the size held, what the record itself
-    /// earns of [`Refusal::Coordinate`] to [`Refusal::RingWidth`], and [`Refusal::NoRoom`].
-    /// Nothing is changed then.
+    /// The first that applies of [`Refusal::WrongVersion`] and [`Refusal::PageSize`] of the basis
+    /// held, [`Refusal::UnknownKind`], what the record itself earns of [`Refusal::Coordinate`] to
+    /// [`Refusal::RingWidth`] and [`Refusal::Player`], and [`Refusal::NoRoom`]. Nothing is changed
+    /// then.
     pub fn write_record(&mut self, record: Record) -> Result<(), Refusal> {
         let (list, length) = (self.list.as_mut_ptr(), self.list.len());
-        let (w, h) = self.sides();
-        let place = self.place;
+        let (place, basis) = (self.place, self.basis.into());
         // SAFETY: the list is a slice of its own, and all else are plain numbers by value.
         let answer = unsafe {
             match record {
-                Record::End => greystroke_write_end(list, length, place, w, h),
+                Record::End => greystroke_write_end(list, length, place, basis),
                 Record::Setting(Setting::Clip(clip)) => {
-                    greystroke_write_clip(list, length, place, w, h, clip.into())
+                    greystroke_write_clip(list, length, place, basis, clip.into())
                 }
                 Record::Setting(Setting::Level(level)) => {
-                    greystroke_write_level(list, length, place, w, h, level)
+                    greystroke_write_level(list, length, place, basis, level)
+                }
+                Record::Setting(Setting::Player(player)) => {
+                    greystroke_write_player(list, length, place, basis, player)
                 }
                 Record::Shape(shape) => {
-                    greystroke_write_shape(list, length, place, w, h, shape.into())
+                    greystroke_write_shape(list, length, place, basis, shape.into())
                 }
             }
         };
         self.take(answer)
     }
 
-    /// W and H as they cross.
-    fn sides(&self) -> (u32, u32) {
-        (self.size.width.into(), self.size.height.into())
-    }
-
     /// The library answers what the writer holds from now on whole, unchanged after a refusal.
     fn take(&mut self, answer: WriteAnswer) -> Result<(), Refusal> {
         self.place = answer.next;
-        self.size = size_of(answer.w, answer.h);
+        self.basis = basis_of(answer.basis);
         accepted_call(answer.refusal, answer.place)
     }
 }
@@ -219,6 +242,13 @@ pub(crate) fn accepted_list(number: u32, place: usize) -> Result<(), ListRefusal
 pub(crate) fn accepted_call(number: u32, place: usize) -> Result<(), Refusal> {
     assert_eq!(place, 0, "refusal {number} of a call has another place");
     accepted_list(number, place).map_err(|refused| refused.refusal)
+}
+
+fn basis_of(basis: GivenBasis) -> Basis {
+    Basis {
+        version: narrow(basis.version),
+        size: size_of(basis.w, basis.h),
+    }
 }
 
 pub(crate) fn size_of(w: u32, h: u32) -> Size {
@@ -245,6 +275,7 @@ fn record_of(answer: &ReadAnswer) -> Record {
             y1: narrow(d),
         })),
         2 => Record::Setting(Setting::Level(narrow(a))),
+        7 => Record::Setting(Setting::Player(narrow(a))),
         _ => Record::Shape(shape_of(answer)),
     }
 }

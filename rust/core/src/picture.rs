@@ -4,12 +4,15 @@ use crate::boundary::greystroke_draw_list;
 use crate::list::{accepted_list, size_of};
 use crate::{ListRefusal, Size};
 
-/// What a list drew: the size of its page, and how many pixels its shapes touched, each counted
-/// once for every shape that touched it.
+/// Players are 0 to 7.
+pub const PLAYERS: usize = 8;
+
+/// What a list drew: the size of its page, and for each player how many pixels the player's shapes
+/// touched, each counted once for every shape that touched it.
 #[derive(Clone, Copy, Debug, PartialEq, Eq)]
 pub struct Picture {
     pub size: Size,
-    pub touched: u64,
+    pub touched: [u64; PLAYERS],
 }
 
 /// Fills a page with the list's background and draws every shape of the list in order. Bytes of
@@ -23,11 +26,12 @@ pub struct Picture {
 /// ```
 /// use greystroke::{draw_list, ListRefusal, Picture, Refusal, Size};
 ///
-/// // Three columns and two rows of level 9, and a disc of radius 1 about the corner (1, 1).
-/// let list = *b"INK\x01\x00\x03\x00\x02\x00\x09\x05\x01\x00\x01\x00\x01\x00";
+/// // Three columns and two rows of level 9, and a disc of player 2: radius 1, corner (1, 1).
+/// let list = *b"INK\x02\x00\x03\x00\x02\x00\x09\x07\x02\x05\x01\x00\x01\x00\x01\x00";
 /// let mut page = [7; 8];
 /// let size = Size { width: 3, height: 2 };
-/// assert_eq!(draw_list(&mut page, &list), Ok(Picture { size, touched: 4 }));
+/// let touched = [0, 0, 4, 0, 0, 0, 0, 0];
+/// assert_eq!(draw_list(&mut page, &list), Ok(Picture { size, touched }));
 /// assert_eq!(page, [132, 132, 9, 132, 132, 9, 7, 7]);
 ///
 /// let too_short = ListRefusal { refusal: Refusal::PageTooShort, place: 0 };

@@ -8,11 +8,11 @@ use std::fmt::{self, Display, Formatter};
 pub enum Refusal {
     /// A list does not begin with the letters INK.
     WrongMark = 1,
-    /// A list is of another version.
+    /// A version is neither 1 nor 2.
     WrongVersion = 2,
     /// The width or height of a page is outside 1 to 1024.
     PageSize = 3,
-    /// A record's first byte is no kind.
+    /// A record is of a kind that the version of its list does not have.
     UnknownKind = 4,
     /// A list ends inside its header or a record, or where a record should begin.
     CutShort = 5,
@@ -35,10 +35,12 @@ pub enum Refusal {
     /// The list being written has no room for what is to be written, or the place of a record is
     /// inside the header.
     NoRoom = 22,
+    /// A player is above 7.
+    Player = 31,
 }
 
 impl Refusal {
-    const ALL: [Refusal; 14] = [
+    const ALL: [Refusal; 15] = [
         Refusal::WrongMark,
         Refusal::WrongVersion,
         Refusal::PageSize,
@@ -53,6 +55,7 @@ impl Refusal {
         Refusal::ListTooLong,
         Refusal::PageTooShort,
         Refusal::NoRoom,
+        Refusal::Player,
     ];
 
     pub fn number(self) -> u64 {
@@ -63,9 +66,9 @@ impl Refusal {
     pub fn reason(self) -> &'static str {
         match self {
             Refusal::WrongMark => "the list does not begin with the letters INK",
-            Refusal::WrongVersion => "the list is of another version",
+            Refusal::WrongVersion => "the version is neither 1 nor 2",
             Refusal::PageSize => "the width or height of the page is outside 1 to 1,024",
-            Refusal::UnknownKind => "the record is of an unknown kind",
+            Refusal::UnknownKind => "the version of the list has no record of this kind",
             Refusal::CutShort => "the list is cut short",
             Refusal::SurplusBytes => "bytes follow the end record",
             Refusal::Coordinate => "a coordinate is outside -4,096 to 4,095",
@@ -76,6 +79,7 @@ impl Refusal {
             Refusal::ListTooLong => "the list has more than 65,536 bytes",
             Refusal::PageTooShort => "the page has fewer bytes than pixels",
             Refusal::NoRoom => "too few bytes are left in the list, which has at most 65,536",
+            Refusal::Player => "the player is above 7",
         }
     }
 

@@ -39,7 +39,7 @@ fn dump_until(stop: usize, list: &[u8], text: &mut String) {
     *text += &line(&header_words(header), 0);
     let mut place = HEADER_LENGTH;
     while place < stop {
-        let (record, rest) = read_record(&list[place..], header.size)
+        let (record, rest) = read_record(&list[place..], header.basis())
             .expect("no record in front of a list's refusal is refused");
         *text += &line(&record_words(record), place);
         place = list.len() - rest.len();

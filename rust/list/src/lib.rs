@@ -1,12 +1,13 @@
 //! Drawing lists as text, one record a line.
 //!
 //! [`make`] turns a text into a list and [`dump`] a list into a text. Words become records here
-//! and records words; bytes are written and read by the proved library alone.
+//! and records words; bytes are written and read by the proved library alone. A list is of the
+//! latest version unless its first line tells another, as `page 4 3 0 version 1` does.
 //!
 //! ```
-//! let text = "page 4 3 0   # black\nexact 1 1 3 2\nend\n";
+//! let text = "page 4 3 0   # black\nplayer 3\nexact 1 1 3 2\nend\n";
 //! let list = list::make(text.as_bytes()).unwrap();
-//! assert_eq!(list.len(), 10 + 9 + 1);
+//! assert_eq!(list.len(), 10 + 2 + 9 + 1);
 //!
 //! let dumped = list::dump(&list);
 //! assert_eq!(dumped.refusal, None);

@@ -1,12 +1,15 @@
 //! The words of a line, and what they stand for.
 
-use greystroke::{Clip, Disc, Header, Line, Record, Ring, Setting, Shape, Size};
+use greystroke::{Clip, Disc, Header, Line, Record, Ring, Setting, Shape, Size, LATEST_VERSION};
 use std::str::FromStr;
 
+// Words in capitals stand for numbers; the others stand as they are.
 pub const PAGE: &str = "page W H BACKGROUND";
-pub const RECORD: &str = "a record (clip, level, exact, approximate, disc, ring or end)";
+const PAGE_OF_VERSION: &str = "page W H BACKGROUND version VERSION";
+pub const RECORD: &str = "a record (clip, level, player, exact, approximate, disc, ring or end)";
 const CLIP: &str = "clip X Y X Y";
 const LEVEL: &str = "level LEVEL";
+const PLAYER: &str = "player PLAYER";
 const EXACT: &str = "exact X Y X Y";
 const APPROXIMATE: &str = "approximate X Y X Y";
 const DISC: &str = "disc X Y RADIUS";
@@ -21,13 +24,17 @@ pub struct Unexpected {
     pub unfit: Option<(&'static str, String)>,
 }
 
-/// The header that a first line stands for.
+/// The header that a first line stands for, of the latest version unless it tells another.
 pub fn header_of(words: &[&str]) -> Result<Header, Unexpected> {
-    let mut fields = Fields::of(words, PAGE)?;
+    let told = words.contains(&"version");
+    let mut fields = Fields::of(words, if told { PAGE_OF_VERSION } else { PAGE })?;
     let (width, height) = (fields.next()?, fields.next()?);
+    let background = fields.next()?;
+    let version = if told { fields.next()? } else { LATEST_VERSION };
     Ok(Header {
+        version,
         size: Size { width, height },
-        background: fields.next()?,
+        background,
     })
 }
 
@@ -39,6 +46,10 @@ pub fn record_of(words: &[&str]) -> Result<Record, Unexpected> {
         Some("level") => {
             let level = Fields::of(words, LEVEL)?.next()?;
             Ok(Record::Setting(Setting::Level(level)))
+        }
+        Some("player") => {
+            let player = Fields::of(words, PLAYER)?.next()?;
+            Ok(Record::Setting(Setting::Player(player)))
         }
         Some("exact") => line_of(words, EXACT, true),
         Some("approximate") => line_of(words, APPROXIMATE, false),
@@ -95,17 +106,18 @@ struct Fields<'a> {
 }
 
 impl<'a> Fields<'a> {
-    /// Words that begin as the form does, and then have one number for each of its fields.
+    /// The words of the form, with a number for each of its fields.
     fn of(words: &[&'a str], form: &'static str) -> Result<Fields<'a>, Unexpected> {
         let names: Vec<&str> = form.split_whitespace().collect();
-        let formed = words.len() == names.len()
-            && words[0] == names[0]
-            && words[1..].iter().all(|word| is_number(word));
-        if !formed {
+        let fits = |(name, word): (&&str, &&str)| match is_field(name) {
+            true => is_number(word),
+            false => name == word,
+        };
+        if words.len() != names.len() || !names.iter().zip(words).all(fits) {
             return Err(unexpected(form));
         }
         let mut left: Vec<_> = names.into_iter().zip(words.iter().copied()).collect();
-        left.remove(0);
+        left.retain(|(name, _)| is_field(name));
         left.reverse();
         Ok(Fields { form, left })
     }
@@ -126,15 +138,24 @@ fn unexpected(expected: &'static str) -> Unexpected {
     }
 }
 
+fn is_field(name: &str) -> bool {
+    name.bytes().all(|byte| byte.is_ascii_uppercase())
+}
+
 /// Digits, with a minus in front or not.
 fn is_number(word: &str) -> bool {
     let digits = word.strip_prefix('-').unwrap_or(word);
     !digits.is_empty() && digits.bytes().all(|byte| byte.is_ascii_digit())
 }
 
+/// The version is told where it is not the one that a text has without it.
 pub fn header_words(header: Header) -> String {
     let Size { width, height } = header.size;
-    format!("page {width} {height} {}", header.background)
+    let page = format!("page {width} {height} {}", header.background);
+    match header.version {
+        LATEST_VERSION => page,
+        version => format!("{page} version {version}"),
+    }
 }
 
 pub fn record_words(record: Record) -> String {
@@ -144,6 +165,7 @@ pub fn record_words(record: Record) -> String {
             format!("clip {x0} {y0} {x1} {y1}")
         }
         Record::Setting(Setting::Level(level)) => format!("level {level}"),
+        Record::Setting(Setting::Player(player)) => format!("player {player}"),
         Record::Shape(Shape::Line(line)) => line_words(line),
         Record::Shape(Shape::Disc(Disc { x, y, radius })) => format!("disc {x} {y} {radius}"),
         Record::Shape(Shape::Ring(ring)) => {

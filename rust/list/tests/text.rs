@@ -20,6 +20,19 @@ exact -4096 4095 7 -2        # at 21
 approximate 7 -2 -4096 4095  # at 30
 disc 4095 -4096 255          # at 39
 ring -1 0 255 255            # at 45
+player 7                     # at 52
+end                          # at 54
+";
+
+/// The same in version 1, which has no player.
+const EACH_KIND_OF_VERSION_1: &str = "\
+page 20 16 9 version 1       # at 0
+clip 3 16 20 16              # at 10
+level 0                      # at 19
+exact -4096 4095 7 -2        # at 21
+approximate 7 -2 -4096 4095  # at 30
+disc 4095 -4096 255          # at 39
+ring -1 0 255 255            # at 45
 end                          # at 52
 ";
 
@@ -32,18 +45,19 @@ fn examples() -> Vec<PathBuf> {
     lists
 }
 
-/// A list that nothing refuses, of up to forty records.
+/// A list that nothing refuses, of either version and up to forty records.
 fn lawful_list(random: &mut Random) -> Vec<u8> {
     let mut side = || random.between(1, 1024) as u16;
     let (width, height) = (side(), side());
-    let background = random.bits() as u8;
-    let mut list = encode_header(&Header {
+    let header = Header {
+        version: random.pick(&[1, 2]),
         width,
         height,
-        background,
-    });
+        background: random.bits() as u8,
+    };
+    let mut list = encode_header(&header);
     for _ in 0..random.between(0, 40) {
-        list.extend(encode_record(&lawful_record(random, width, height)));
+        list.extend(encode_record(&lawful_record(random, header.basis())));
     }
     list.push(0);
     list
@@ -97,17 +111,35 @@ fn wrong(text: &str) -> String {
 #[test]
 fn each_kind_of_record_has_its_words() {
     let list = make(EACH_KIND.as_bytes()).unwrap();
-    assert_eq!(list.len(), 53);
+    assert_eq!(list.len(), 55);
     assert_eq!(list[10..19], [1, 3, 0, 16, 0, 20, 0, 16, 0]);
     assert_eq!(list[30..39], [4, 7, 0, 0xFE, 0xFF, 0, 0xF0, 0xFF, 0x0F]);
+    assert_eq!(list[52..54], [7, 7]);
     assert_eq!(dump(&list).text, EACH_KIND);
+}
+
+/// The same bytes but for those of the version and of the player, which version 1 lacks.
+#[test]
+fn version_1_is_told_and_version_2_is_not() {
+    let newer = make(EACH_KIND.as_bytes()).unwrap();
+    let older = make(EACH_KIND_OF_VERSION_1.as_bytes()).unwrap();
+    assert_eq!((&newer[3..5], &older[3..5]), (&[2, 0][..], &[1, 0][..]));
+    assert_eq!(newer[5..52], older[5..52]);
+    assert_eq!((&newer[52..], &older[52..]), (&[7, 7, 0][..], &[0][..]));
+    assert_eq!(dump(&older).text, EACH_KIND_OF_VERSION_1);
+    let told = make(b"page 4 3 0 version 2\nend\n");
+    assert_eq!(told, make(b"page 4 3 0\nend\n"));
+    assert!(told.is_ok());
 }
 
 #[test]
 fn the_list_of_the_rules_is_made_from_its_text() {
-    let list = make(b"page 4 3 0\nexact 1 1 3 2\nend").unwrap();
     let rules = b"INK\x01\x00\x04\x00\x03\x00\x00\x03\x01\x00\x01\x00\x03\x00\x02\x00\x00";
+    let list = make(b"page 4 3 0 version 1\nexact 1 1 3 2\nend").unwrap();
     assert_eq!(list, rules);
+    let newer = make(b"page 4 3 0\nexact 1 1 3 2\nend").unwrap();
+    assert_eq!(newer[..5], *b"INK\x02\x00");
+    assert_eq!(newer[5..], rules[5..]);
 }
 
 #[test]
@@ -148,19 +180,31 @@ fn a_wrong_kind_ends_the_dump_at_any_record() {
     let starts = places(EACH_KIND);
     for (before, &place) in starts.iter().enumerate().skip(1) {
         let mut damaged = list.clone();
-        damaged[place] = 7;
+        damaged[place] = 8;
         assert_eq!(assert_told(&damaged), Some(Refusal::UnknownKind));
         let dumped = dump(&damaged);
         assert_eq!(places(&dumped.text), starts[..before]);
-        let last = format!("# refused 4 at {place}: the record is of an unknown kind\n");
+        let reason = "the version of the list has no record of this kind";
+        let last = format!("# refused 4 at {place}: {reason}\n");
         assert!(dumped.text.ends_with(&last), "{}", dumped.text);
     }
+}
+
+/// Turned into a list of version 1, a list with a player is dumped up to it.
+#[test]
+fn a_player_ends_the_dump_of_version_1() {
+    let mut list = make(EACH_KIND.as_bytes()).unwrap();
+    list[3] = 1;
+    assert_eq!(assert_told(&list), Some(Refusal::UnknownKind));
+    let text = dump(&list).text;
+    assert!(text.starts_with("page 20 16 9 version 1 "), "{text}");
+    assert_eq!(places(&text), [0, 10, 19, 21, 30, 39, 45]);
 }
 
 #[test]
 fn damaged_lists_tell_the_refusal_of_their_check() {
     let mut random = Random::new(2);
-    let mut seen = [0_u32; 13];
+    let mut seen = [0_u32; 32];
     for _ in 0..10 * ROUNDS {
         let mut list = any_list(&mut random);
         damage(&mut random, &mut list);
@@ -169,6 +213,7 @@ fn damaged_lists_tell_the_refusal_of_their_check() {
     }
     // Every refusal of a list but that of its length, and lists that took no harm.
     assert!(seen[..12].iter().all(|&count| count > 10), "{seen:?}");
+    assert!(seen[31] > 10, "{seen:?}");
 }
 
 #[test]
@@ -210,7 +255,7 @@ fn blanks_comments_and_carriage_returns_are_passed_over() {
 
 #[test]
 fn wrong_lines_are_told_by_their_number() {
-    let record = "a record (clip, level, exact, approximate, disc, ring or end)";
+    let record = "a record (clip, level, player, exact, approximate, disc, ring or end)";
     let rows = [
         (
             "",
@@ -235,6 +280,27 @@ fn wrong_lines_are_told_by_their_number() {
         (
             "page 0 3 0",
             "line 1: refused 3: the width or height of the page is outside 1 to 1,024",
+        ),
+        (
+            "page 4 3 0 1",
+            "line 1: expected page W H BACKGROUND, found page 4 3 0 1",
+        ),
+        (
+            "page 4 3 0 version",
+            "line 1: expected page W H BACKGROUND version VERSION, found page 4 3 0 version",
+        ),
+        (
+            "page version 1 4 3 0",
+            "line 1: expected page W H BACKGROUND version VERSION, found page version 1 4 3 0",
+        ),
+        (
+            "page 4 3 0 version 65536",
+            "line 1: expected page W H BACKGROUND version VERSION, \
+             found page 4 3 0 version 65536: 65536 does not fit VERSION",
+        ),
+        (
+            "page 0 3 0 version 3",
+            "line 1: refused 2: the version is neither 1 nor 2",
         ),
         (
             "INK\u{1}\u{0}",
@@ -282,6 +348,12 @@ fn wrong_lines_are_told_by_their_number() {
             "level 256",
             "expected level LEVEL, found level 256: 256 does not fit LEVEL",
         ),
+        ("player", "expected player PLAYER, found player"),
+        (
+            "player 256",
+            "expected player PLAYER, found player 256: 256 does not fit PLAYER",
+        ),
+        ("player 8", "refused 31: the player is above 7"),
         ("disc 1 1", "expected disc X Y RADIUS, found disc 1 1"),
         ("disc 1 1 256", "refused 10: the radius is 0 or above 255"),
         (
@@ -303,7 +375,11 @@ fn wrong_lines_are_told_by_their_number() {
         assert_eq!(wrong(&text), format!("line 3: {told}"));
     }
 
-    for line in ["page 4 3 0", "Level 3", "circle 1 1 5", "3"] {
+    let of_version_1 = "page 4 3 0 version 1\nlevel 9\nplayer 0\nend\n";
+    let told = "line 3: refused 4: the version of the list has no record of this kind";
+    assert_eq!(wrong(of_version_1), told);
+
+    for line in ["page 4 3 0", "Level 3", "players 3", "circle 1 1 5", "3"] {
         let text = format!("page 4 3 0\n{line}\nend\n");
         assert_eq!(
             wrong(&text),

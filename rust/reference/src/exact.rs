@@ -39,6 +39,7 @@ impl BigFraction {
 #[derive(Clone, Copy, Debug)]
 pub struct Touch {
     pub level: u8,
+    pub player: u8,
     pub own: Fraction,
     pub exact: Fraction,
     /// How far the two coverages may be apart: s over 4·l for an approximate line, else nothing.
@@ -53,6 +54,7 @@ pub fn touches_at(accepted: &Accepted, x: u16, y: u16) -> Vec<Touch> {
     touching
         .map(|drawing| Touch {
             level: drawing.level,
+            player: drawing.player,
             own: own_coverage(&drawing.shape, x.into(), y.into()),
             exact: exact_coverage(&drawing.shape, x.into(), y.into()),
             apart: apart(&drawing.shape),
@@ -124,6 +126,7 @@ mod tests {
         let half = Fraction { n: 1, d: 2 };
         Touch {
             level,
+            player: 0,
             own: half,
             exact: half,
             apart: Fraction { n: 0, d: 1 },

@@ -1,18 +1,29 @@
 //! The bytes of a header and of each kind of record.
 
 use crate::refusal::Refusal;
-use crate::shape::{Clip, Disc, Line, Record, Ring, Setting, Shape};
+use crate::shape::{version_refusal, Basis, Clip, Disc, Line, Record, Ring, Setting, Shape};
 
 pub const LONGEST_LIST: usize = 65_536;
 pub const HEADER_LENGTH: usize = 10;
 const MARK: [u8; 3] = *b"INK";
-const VERSION: u16 = 1;
 
 #[derive(Clone, Copy, Debug, PartialEq, Eq)]
 pub struct Header {
+    pub version: u16,
     pub width: u16,
     pub height: u16,
     pub background: u8,
+}
+
+impl Header {
+    /// What the records behind this header are read and written against.
+    pub fn basis(&self) -> Basis {
+        Basis {
+            version: self.version,
+            width: self.width,
+            height: self.height,
+        }
+    }
 }
 
 /// Reads the header: 5, 1, 2 in this order. Its sizes are judged by the caller.
@@ -21,10 +32,11 @@ pub fn decode_header(list: &[u8]) -> Result<Header, Refusal> {
         Err(Refusal::CutShort)
     } else if list[..3] != MARK {
         Err(Refusal::WrongMark)
-    } else if unsigned(list, 3) != VERSION {
-        Err(Refusal::WrongVersion)
+    } else if let Some(refusal) = version_refusal(unsigned(list, 3)) {
+        Err(refusal)
     } else {
         Ok(Header {
+            version: unsigned(list, 3),
             width: unsigned(list, 5),
             height: unsigned(list, 7),
             background: list[9],
@@ -34,30 +46,40 @@ pub fn decode_header(list: &[u8]) -> Result<Header, Refusal> {
 
 pub fn encode_header(header: &Header) -> Vec<u8> {
     let mut bytes = MARK.to_vec();
-    for field in [VERSION, header.width, header.height] {
+    for field in [header.version, header.width, header.height] {
         bytes.extend(field.to_le_bytes());
     }
     bytes.push(header.background);
     bytes
 }
 
+/// 4 unless the version has this kind: version 1 has 0 to 6, and version 2 has 7 too.
+pub fn kind_refusal(kind: u8, version: u16) -> Option<Refusal> {
+    let last = if version == 1 { 6 } else { 7 };
+    (kind > last).then_some(Refusal::UnknownKind)
+}
+
 /// Bytes of a record of this kind, the kind byte included.
-fn record_length(kind: u8) -> Option<usize> {
+fn record_length(kind: u8) -> usize {
     match kind {
-        0 => Some(1),
-        1 => Some(9),
-        2 => Some(2),
-        3 | 4 => Some(9),
-        5 => Some(6),
-        6 => Some(7),
-        _ => None,
+        0 => 1,
+        1 => 9,
+        2 => 2,
+        3 | 4 => 9,
+        5 => 6,
+        6 => 7,
+        7 => 2,
+        _ => panic!("no version has kind {kind}"),
     }
 }
 
 /// The record at the front of the bytes and its length: 5 for no byte, 4, then 5 for a cut record.
-pub fn decode_record(bytes: &[u8]) -> Result<(Record, usize), Refusal> {
+pub fn decode_record(bytes: &[u8], version: u16) -> Result<(Record, usize), Refusal> {
     let kind = *bytes.first().ok_or(Refusal::CutShort)?;
-    let length = record_length(kind).ok_or(Refusal::UnknownKind)?;
+    if let Some(refusal) = kind_refusal(kind, version) {
+        return Err(refusal);
+    }
+    let length = record_length(kind);
     let bytes = bytes.get(..length).ok_or(Refusal::CutShort)?;
     let record = match kind {
         0 => Record::End,
@@ -69,12 +91,13 @@ pub fn decode_record(bytes: &[u8]) -> Result<(Record, usize), Refusal> {
             y: signed(bytes, 3),
             radius: bytes[5].into(),
         })),
-        _ => Record::Shape(Shape::Ring(Ring {
+        6 => Record::Shape(Shape::Ring(Ring {
             x: signed(bytes, 1),
             y: signed(bytes, 3),
             radius: bytes[5].into(),
             width: bytes[6].into(),
         })),
+        _ => Record::Setting(Setting::Player(bytes[1])),
     };
     Ok((record, length))
 }
@@ -98,35 +121,43 @@ fn decode_line(bytes: &[u8]) -> Line {
     }
 }
 
-/// The bytes of a record that is not refused.
-pub fn encode_record(record: &Record) -> Vec<u8> {
+/// The kind byte of a record.
+pub fn kind_of(record: &Record) -> u8 {
     match record {
-        Record::End => vec![0],
-        Record::Setting(Setting::Clip(clip)) => with_fields(
-            1,
-            &[clip.x0, clip.y0, clip.x1, clip.y1].map(u16::to_le_bytes),
-        ),
-        Record::Setting(Setting::Level(level)) => vec![2, *level],
-        Record::Shape(Shape::Line(line)) => with_fields(
-            if line.exact { 3 } else { 4 },
-            &[line.x0, line.y0, line.x1, line.y1].map(i16::to_le_bytes),
-        ),
-        Record::Shape(Shape::Disc(disc)) => {
-            let mut bytes = with_fields(5, &[disc.x, disc.y].map(i16::to_le_bytes));
-            bytes.push(one_byte(disc.radius));
-            bytes
-        }
-        Record::Shape(Shape::Ring(ring)) => {
-            let mut bytes = with_fields(6, &[ring.x, ring.y].map(i16::to_le_bytes));
-            bytes.extend([one_byte(ring.radius), one_byte(ring.width)]);
-            bytes
-        }
+        Record::End => 0,
+        Record::Setting(Setting::Clip(_)) => 1,
+        Record::Setting(Setting::Level(_)) => 2,
+        Record::Shape(Shape::Line(line)) if line.exact => 3,
+        Record::Shape(Shape::Line(_)) => 4,
+        Record::Shape(Shape::Disc(_)) => 5,
+        Record::Shape(Shape::Ring(_)) => 6,
+        Record::Setting(Setting::Player(_)) => 7,
     }
 }
 
-fn with_fields(kind: u8, fields: &[[u8; 2]]) -> Vec<u8> {
-    let mut bytes = vec![kind];
-    bytes.extend(fields.iter().flatten());
+/// The bytes of a record that is not refused.
+pub fn encode_record(record: &Record) -> Vec<u8> {
+    let mut bytes = vec![kind_of(record)];
+    match record {
+        Record::End => {}
+        Record::Setting(Setting::Clip(clip)) => {
+            let corners = [clip.x0, clip.y0, clip.x1, clip.y1];
+            bytes.extend(corners.map(u16::to_le_bytes).iter().flatten());
+        }
+        Record::Setting(Setting::Level(byte) | Setting::Player(byte)) => bytes.push(*byte),
+        Record::Shape(Shape::Line(line)) => {
+            let ends = [line.x0, line.y0, line.x1, line.y1];
+            bytes.extend(ends.map(i16::to_le_bytes).iter().flatten());
+        }
+        Record::Shape(Shape::Disc(disc)) => {
+            bytes.extend([disc.x, disc.y].map(i16::to_le_bytes).iter().flatten());
+            bytes.push(one_byte(disc.radius));
+        }
+        Record::Shape(Shape::Ring(ring)) => {
+            bytes.extend([ring.x, ring.y].map(i16::to_le_bytes).iter().flatten());
+            bytes.extend([one_byte(ring.radius), one_byte(ring.width)]);
+        }
+    }
     bytes
 }
 

@@ -4,14 +4,15 @@ use crate::format::{decode_header, Header, HEADER_LENGTH, LONGEST_LIST};
 use crate::page::{page_length, paint};
 use crate::reader::lawful_record;
 use crate::refusal::{Refusal, Refused};
-use crate::shape::{page_size_refusal, Clip, Record, Setting, Shape};
+use crate::shape::{page_size_refusal, Clip, Record, Setting, Shape, PLAYERS};
 
-/// A shape with the clip and level in force for it.
+/// A shape with the clip, level and player in force for it.
 #[derive(Clone, Copy, Debug, PartialEq, Eq)]
 pub struct Drawing {
     pub shape: Shape,
     pub clip: Clip,
     pub level: u8,
+    pub player: u8,
 }
 
 /// What an accepted list says.
@@ -25,7 +26,8 @@ pub struct Accepted {
 pub struct Drawn {
     pub width: u16,
     pub height: u16,
-    pub touched: u64,
+    /// For each player the pixels that the player's own shapes touch.
+    pub touched: [u64; PLAYERS],
 }
 
 /// Tries the whole list, as it would be drawn on a page of `page_bytes` bytes.
@@ -53,13 +55,13 @@ fn check_header(list: &[u8], page_bytes: usize) -> Result<Header, Refusal> {
     Ok(header)
 }
 
-/// The records before the end record: each tried 4, 5, then 7 to 11; last 6.
+/// The records before the end record: each tried 4, 5, then 7 to 11 and 31; last 6.
 fn check_records(list: &[u8], header: &Header) -> Result<Vec<Record>, Refused> {
     let mut records = Vec::new();
     let mut place = HEADER_LENGTH;
     loop {
-        let (record, length) = lawful_record(&list[place..], header.width, header.height)
-            .map_err(|refusal| refusal.at(place))?;
+        let (record, length) =
+            lawful_record(&list[place..], header.basis()).map_err(|refusal| refusal.at(place))?;
         place += length;
         if record != Record::End {
             records.push(record);
@@ -75,13 +77,20 @@ fn check_records(list: &[u8], header: &Header) -> Result<Vec<Record>, Refused> {
 fn drawings(header: &Header, records: &[Record]) -> Vec<Drawing> {
     let mut clip = Clip::whole(header.width, header.height);
     let mut level = 255;
+    let mut player = 0;
     let mut drawings = Vec::new();
     for record in records {
         match *record {
             Record::End => {}
             Record::Setting(Setting::Clip(next)) => clip = next,
             Record::Setting(Setting::Level(next)) => level = next,
-            Record::Shape(shape) => drawings.push(Drawing { shape, clip, level }),
+            Record::Setting(Setting::Player(next)) => player = next,
+            Record::Shape(shape) => drawings.push(Drawing {
+                shape,
+                clip,
+                level,
+                player,
+            }),
         }
     }
     drawings
@@ -94,11 +103,13 @@ pub fn draw_list(list: &[u8], page: &mut [u8]) -> Result<Drawn, Refused> {
         width,
         height,
         background,
+        ..
     } = accepted.header;
     page[..page_length(width, height)].fill(background);
-    let mut touched = 0;
+    let mut touched = [0; PLAYERS];
     for drawing in &accepted.drawings {
-        touched += paint(page, width, &drawing.clip, drawing.level, &drawing.shape);
+        let count = paint(page, width, &drawing.clip, drawing.level, &drawing.shape);
+        touched[usize::from(drawing.player)] += count;
     }
     Ok(Drawn {
         width,
@@ -114,6 +125,7 @@ mod tests {
 
     fn header() -> Vec<u8> {
         encode_header(&Header {
+            version: 2,
             width: 1,
             height: 1,
             background: 7,

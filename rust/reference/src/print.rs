@@ -18,12 +18,18 @@ pub fn print(list: &[u8]) -> String {
 
 fn plain_pgm(drawn: &Drawn, page: &[u8]) -> String {
     let (width, height) = (usize::from(drawn.width), usize::from(drawn.height));
-    let mut text = format!("P2\n# touched {}\n{width} {height}\n255\n", drawn.touched);
+    let counts = joined(drawn.touched);
+    let mut text = format!("P2\n# touched {counts}\n{width} {height}\n255\n");
     for row in page.chunks(width).take(height) {
         for line in row.chunks(LEVELS_A_LINE) {
-            let levels: Vec<String> = line.iter().map(u8::to_string).collect();
-            writeln!(text, "{}", levels.join(" ")).expect("a string takes all");
+            writeln!(text, "{}", joined(line)).expect("a string takes all");
         }
     }
     text
+}
+
+/// Numbers parted by one blank.
+fn joined(numbers: impl IntoIterator<Item = impl ToString>) -> String {
+    let words: Vec<String> = numbers.into_iter().map(|n| n.to_string()).collect();
+    words.join(" ")
 }

@@ -16,6 +16,7 @@ pub enum Refusal {
     ListTooLong = 12,
     PageTooShort = 21,
     NoRoom = 22,
+    Player = 31,
 }
 
 impl Refusal {

@@ -1,4 +1,5 @@
-//! Shapes, clips and records, and the first refusal of each.
+//! Shapes, settings and records, what records are read and written against, and the first refusal
+//! of each.
 
 use crate::refusal::Refusal;
 
@@ -6,6 +7,9 @@ pub const LOWEST_COORDINATE: i16 = -4096;
 pub const HIGHEST_COORDINATE: i16 = 4095;
 pub const LARGEST_SIDE: u16 = 1024;
 pub const LARGEST_RADIUS: u16 = 255;
+pub const LATEST_VERSION: u16 = 2;
+/// Players are 0 to 7.
+pub const PLAYERS: usize = 8;
 
 #[derive(Clone, Copy, Debug, PartialEq, Eq)]
 pub struct Line {
@@ -51,6 +55,7 @@ pub struct Clip {
 pub enum Setting {
     Clip(Clip),
     Level(u8),
+    Player(u8),
 }
 
 #[derive(Clone, Copy, Debug, PartialEq, Eq)]
@@ -58,6 +63,26 @@ pub enum Record {
     End,
     Setting(Setting),
     Shape(Shape),
+}
+
+/// What records are read and written against: the version of their list, and the size of its page.
+#[derive(Clone, Copy, Debug, PartialEq, Eq)]
+pub struct Basis {
+    pub version: u16,
+    pub width: u16,
+    pub height: u16,
+}
+
+impl Basis {
+    /// 2, then 3.
+    pub fn first_refusal(&self) -> Option<Refusal> {
+        version_refusal(self.version).or_else(|| page_size_refusal(self.width, self.height))
+    }
+}
+
+/// 2 unless the version is 1 or 2.
+pub fn version_refusal(version: u16) -> Option<Refusal> {
+    (!(1..=LATEST_VERSION).contains(&version)).then_some(Refusal::WrongVersion)
 }
 
 /// 3 unless both sides are from 1 to 1,024.
@@ -70,6 +95,11 @@ pub fn page_size_refusal(width: u16, height: u16) -> Option<Refusal> {
 pub fn coordinate_refusal(coordinates: &[i16]) -> Option<Refusal> {
     let lawful = |c: &i16| (LOWEST_COORDINATE..=HIGHEST_COORDINATE).contains(c);
     (!coordinates.iter().all(lawful)).then_some(Refusal::Coordinate)
+}
+
+/// 31 above the last player.
+fn player_refusal(player: u8) -> Option<Refusal> {
+    (usize::from(player) >= PLAYERS).then_some(Refusal::Player)
 }
 
 fn radius_refusal(radius: u16) -> Option<Refusal> {
@@ -128,11 +158,12 @@ impl Clip {
 }
 
 impl Record {
-    /// The first of 7 to 11 that the record's kind has and the record earns on this page.
+    /// The first of 7 to 11 and 31 that the record's kind has and its fields earn on this page.
     pub fn first_refusal(&self, width: u16, height: u16) -> Option<Refusal> {
         match self {
             Record::End | Record::Setting(Setting::Level(_)) => None,
             Record::Setting(Setting::Clip(clip)) => clip.first_refusal(width, height),
+            Record::Setting(Setting::Player(player)) => player_refusal(*player),
             Record::Shape(shape) => shape.first_refusal(),
         }
     }

@@ -1,33 +1,42 @@
 //! Writing a list: a header at byte 0, records at the place reached.
 
-use crate::format::{encode_header, encode_record, Header, HEADER_LENGTH, LONGEST_LIST};
+use crate::format::{
+    encode_header, encode_record, kind_of, kind_refusal, Header, HEADER_LENGTH, LONGEST_LIST,
+};
 use crate::refusal::{Refusal, Refused};
-use crate::shape::{page_size_refusal, Record};
+use crate::shape::{Basis, Record};
 
-/// The list being written, the place reached, and the page size held for clips.
+/// The list being written, the place reached, and the version and page size that are held.
 pub struct Writer<'a> {
     pub list: &'a mut [u8],
     pub place: usize,
-    pub width: u16,
-    pub height: u16,
+    pub basis: Basis,
 }
 
 impl Writer<'_> {
-    /// Tried 3 for the header's own sizes, then 22.
+    /// Tried 2 and 3 for the header's own version and sizes, then 22.
     pub fn write_header(&mut self, header: &Header) -> Result<(), Refused> {
-        if let Some(refusal) = page_size_refusal(header.width, header.height) {
+        if let Some(refusal) = header.basis().first_refusal() {
             return Err(refusal.at(0));
         }
         self.put(0, &encode_header(header))?;
-        self.width = header.width;
-        self.height = header.height;
+        self.basis = header.basis();
         Ok(())
     }
 
-    /// Tried 3 for the sizes held, then 7 to 11 as the kind has them, then 22.
+    /// Tried 2 and 3 for what is held, 4 for a kind that the version lacks, then 7 to 11 and 31 as
+    /// the kind has them, then 22.
     pub fn write_record(&mut self, record: &Record) -> Result<(), Refused> {
-        let refusal = page_size_refusal(self.width, self.height)
-            .or_else(|| record.first_refusal(self.width, self.height))
+        let Basis {
+            version,
+            width,
+            height,
+        } = self.basis;
+        let refusal = self
+            .basis
+            .first_refusal()
+            .or_else(|| kind_refusal(kind_of(record), version))
+            .or_else(|| record.first_refusal(width, height))
             .or_else(|| (self.place < HEADER_LENGTH).then_some(Refusal::NoRoom));
         match refusal {
             Some(refusal) => Err(refusal.at(0)),
@@ -57,8 +66,11 @@ mod tests {
         let mut writer = Writer {
             list: &mut list,
             place: LONGEST_LIST - 1,
-            width: 1,
-            height: 1,
+            basis: Basis {
+                version: 2,
+                width: 1,
+                height: 1,
+            },
         };
         assert_eq!(writer.write_record(&Record::End), Ok(()));
         assert_eq!(writer.place, LONGEST_LIST);

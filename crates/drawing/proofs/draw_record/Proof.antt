@@ -5,7 +5,7 @@ use Rattle.numbers.specs.Sum.{total}
 use Rattle.shapes.specs.Limits.{shapeRefusal, recordRefusal}
 use Rattle.shapes.specs.declared.Record.{Record}
 use Rattle.lists.specs.Drawing.{drawingOf}
-use Rattle.drawing.specs.inner.Walk.{shapesPage}
+use Rattle.drawing.specs.inner.Walk.{settingsOf, shapesPage}
 use Rattle.drawing.proofs.Records.{shape-drawn}
 use borrow.Author.Needs.{needs}
 use Rattle.drawing.proofs.draw_record.Statement.{statement}
@@ -32,7 +32,7 @@ returns : tie.Need-returns
 unfolding shapesPage total drawingOf
 returns c =
     let v = c .before .before .before .fits .level in
-    rw (c .enum-told .given .1) (record { page = refl; count = refl }, omega arith, omega arith)
+    rw (c .enum-told .given .1) ((λ player. record { page = refl; count = refl }), omega arith, omega arith)
 
 returns-2 : tie.Need-returns-2
 returns-2 c =
@@ -40,14 +40,18 @@ returns-2 c =
     let found = done .before .before .before .before in
     let s = start found in
     let v = s .fits .level in
-    let d = shape-drawn _ _ (s .pre .0) (lawful found) (rw (done .before .view-of .ensures) at (done .draw-lawful .ensures)) in
-    rw (found .rec .given .1) (d .0, d .1, omega arith)
+    let shown = rw (done .before .view-of .ensures) at (done .draw-lawful .ensures) in
+    rw (found .rec .given .1) (
+      (λ player. shape-drawn (settingsOf (s .args .clip) (s .args .level) player) _ (s .pre .0) (lawful found) shown .0),
+      shape-drawn {b = s .args .basis} (settingsOf (s .args .clip) (s .args .level) 0) _ (s .pre .0) (lawful found) shown .1,
+      omega arith,
+    )
 
 returns-3 : tie.Need-returns-3
 unfolding shapesPage total drawingOf
 returns-3 c =
     let v = c .before .before .before .fits .level in
-    rw (c .enum-told2 .given .1) (record { page = refl; count = refl }, omega arith, omega arith)
+    rw (c .enum-told2 .given .1) ((λ player. record { page = refl; count = refl }), omega arith, omega arith)
 
 pub draw-record-spec : {M : Type 1} → statement M
 draw-record-spec =

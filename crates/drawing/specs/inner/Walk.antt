@@ -1,21 +1,21 @@
 -- What the functions within say of a list that is drawn record by record.
 use mathlib.Core.Path.{_≡_}
 use mathlib.Core.List.{List, [], _∷_}
-use Prim.Native.Nat.{ℕ, _*_, _%_, _/_, _≤_}
+use Prim.Native.Nat.{ℕ, _*_, _%_, _/_, _≤_, _<_}
 use Rattle.shapes.specs.Limits.{shapeRefusal}
 use Rattle.shapes.specs.declared.Basis.{Basis}
 use Rattle.shapes.specs.declared.Clip.{Clip}
 use Rattle.page.specs.Page.{over}
-use Rattle.lists.specs.inner.Walk.{Walkable}
+use Rattle.lists.specs.inner.Walk.{playersIn, Walkable}
 use Rattle.bound.specs.Exact.{byteAfter}
 use Rattle.draw.specs.Touch.{pageAfter}
 use Rattle.lists.specs.Drawing.{Drawing}
 use Rattle.drawing.specs.Touches.{touchesAt}
-use Rattle.drawing.specs.Counts.{shapesCount}
+use Rattle.drawing.specs.Counts.{shapesCount, playerCounts}
 use Rattle.lists.specs.declared.settings.Settings.{Settings}
 
-abbrev pub settingsOf : Clip → ℕ → Settings
-settingsOf c v = record { clip = c; level = v }
+abbrev pub settingsOf : Clip → ℕ → ℕ → Settings
+settingsOf c v p = record { clip = c; level = v; player = p }
 
 -- the page l after one shape upon the other
 unfoldable pub shapesPage : ℕ → List Drawing → List ℕ → List ℕ
@@ -26,10 +26,10 @@ shapesPage w (d ∷ ds) l = shapesPage w ds (pageAfter w (d .settings .clip) (d 
 unfoldable pub touchedPage : ℕ → ℕ → List Drawing → List ℕ → List ℕ
 touchedPage w b ds = over (λ k _. byteAfter b (touchesAt ds (k % w) (k / w)))
 
--- every level is a byte, and no shape has a refusal
-unfoldable pub AllLawful : List Drawing → Type 0
-AllLawful [] = Unit {0}
-AllLawful (d ∷ ds) = (d .settings .level ≤ 255) × (shapeRefusal (d .shape) ≡ 0) × AllLawful ds
+-- every level is a byte, every player is one of version v, and no shape has a refusal
+unfoldable pub AllLawful : ℕ → List Drawing → Type 0
+AllLawful v [] = Unit {0}
+AllLawful v (d ∷ ds) = (d .settings .level ≤ 255) × (d .settings .player < playersIn v) × (shapeRefusal (d .shape) ≡ 0) × AllLawful v ds
 
 -- an accepted list s, and a page for it in size bytes
 pub record Drawable (s : List ℕ) (b : Basis) (size : ℕ) : Type 0 where
@@ -41,9 +41,15 @@ pub record ShapesDrawn (b : Basis) (ds : List Drawing) (l m : List ℕ) (t : ℕ
   pub page : m ≡ shapesPage (b .w) ds l
   pub count : t ≡ shapesCount (b .w) (b .h) ds
 
--- lawful drawings ds on a background, which is a byte, leave m and touch t pixels
-pub record ListPainted (b : Basis) (background : ℕ) (ds : List Drawing) (l m : List ℕ) (t : ℕ) : Type 0 where
+-- lawful drawings ds do so, and touch ts pixels by player
+pub record ListDrawn (b : Basis) (ds : List Drawing) (l m ts : List ℕ) : Type 0 where
+  pub page : m ≡ shapesPage (b .w) ds l
+  pub counts : ts ≡ playerCounts (shapesCount (b .w) (b .h)) ds
+  pub lawful : AllLawful (b .version) ds
+
+-- and on a background, which is a byte
+pub record ListPainted (b : Basis) (background : ℕ) (ds : List Drawing) (l m ts : List ℕ) : Type 0 where
   pub page : m ≡ touchedPage (b .w) background ds l
-  pub count : t ≡ shapesCount (b .w) (b .h) ds
-  pub lawful : AllLawful ds
+  pub counts : ts ≡ playerCounts (shapesCount (b .w) (b .h)) ds
+  pub lawful : AllLawful (b .version) ds
   pub byte : background ≤ 255

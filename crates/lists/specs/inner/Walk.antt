@@ -1,9 +1,11 @@
 -- A walk over the records of an accepted list.
 use mathlib.Core.Path.{_≡_}
+use mathlib.Core.Bool.{cond}
 use mathlib.Core.List.{List, []}
 use Prim.Native.Nat.{ℕ, suc, _≤_}
 use lib.ListN.{length, drop}
-use Rattle.shapes.specs.Limits.{sizeRefusal}
+use lib.Dec.{eqb}
+use Rattle.shapes.specs.Limits.{basisRefusal}
 use Rattle.shapes.specs.declared.Basis.{Basis}
 use Rattle.shapes.specs.declared.Record.{Record}
 use Rattle.lists.specs.Format.{headerSize, listMost}
@@ -21,9 +23,13 @@ listRecords b s = recordsFrom (suc (length s)) b (drop headerSize s) headerSize
 abbrev pub listDrawings : Basis → List ℕ → List Drawing
 listDrawings b s = drawings b (recordsIn (listRecords b s))
 
+-- how many players a version has: in version 1 all is on player 0
+abbrev pub playersIn : ℕ → ℕ
+playersIn v = cond (eqb v 1) 1 8
+
 -- a list s that is accepted: its records can be walked over
 pub record Walkable (s : List ℕ) (b : Basis) : Type 0 where
-  pub page : sizeRefusal (b .w) (b .h) ≡ 0
+  pub basis : basisRefusal b ≡ 0
   pub least : headerSize ≤ length s
   pub most : length s ≤ listMost
   pub is : listRecords b s ≡ accepted (recordsIn (listRecords b s))

@@ -46,7 +46,7 @@ use denote.Signature.Struct.{makes}
 use Rattle.writer.specs.declared.Writer.{Writer}
 use Rattle.shapes.specs.declared.Record.{Record}
 use Rattle.lists.specs.declared.format.Header.{Header}
-use Rattle.lists.specs.Write.{headerList}
+use Rattle.lists.specs.Write.{heldBy, headerList}
 use Rattle.lists.proofs.Writes.{header-length, record-length}
 use Rattle.writer.specs.declared.Started.{Started}
 use Rattle.writer.specs.Writer.{headed, recorded, headerFirst, recordSecond, startedList}
@@ -74,7 +74,7 @@ use Rattle.writer.proofs.start_list.Code as code
 
 -- a header and a record leave the list as long as it is
 started-length : (l : List ℕ) (d : Header) (r : Record) → length (startedList l d r) ≡ length l
-started-length l d r = record-length (headerList l d) (headerFirst l d .place) (headerFirst l d .w) (headerFirst l d .h) r ∙ header-length l d
+started-length l d r = record-length (headerList l d) (headerFirst l d .place) (heldBy (headerFirst l d)) r ∙ header-length l d
 
 abbrev stayed : Stays (start-list.ended .signature .params) (start-list.ended .kept)
 stayed = (stay-slice (0 ∷ []) tt (plain (λ _. u8)), (stay-none (λ _. HE.the-row) yes, (stay-none (λ _. E.the-row) yes, tt)))
@@ -119,7 +119,7 @@ module _ {M : Type 1} (𝓤 : URA M) (H : Heap 𝓤) (A : Atoms 𝓤) (W : Given
 
   -- the writer at the start, behind the header, and behind the record
   abbrev h₀ : Writer
-  h₀ = record { list = x ys; place = 0; w = 0; h = 0 }
+  h₀ = record { list = x ys; place = 0; version = 0; w = 0; h = 0 }
 
   abbrev h₁ : Writer
   h₁ = headed h₀ header
@@ -130,11 +130,11 @@ module _ {M : Type 1} (𝓤 : URA M) (H : Heap 𝓤) (A : Atoms 𝓤) (W : Given
   abbrev zs : List ℕ
   zs = startedList ys header rec
 
-  abbrev parts : RefT (List ℕ) × (ℕ × (ℕ × (ℕ × Unit {0})))
-  parts = (x zs, (h₂ .place, (h₂ .w, (h₂ .h, tt))))
+  abbrev parts : RefT (List ℕ) × (ℕ × (ℕ × (ℕ × (ℕ × Unit {0}))))
+  parts = (x zs, (h₂ .place, (h₂ .version, (h₂ .w, (h₂ .h, tt)))))
 
   abbrev mach₀ : Val
-  mach₀ = vstruct (vcons s (vcons (vint w64 0) (vcons (vint w16 0) (vcons (vint w16 0) vnil))))
+  mach₀ = vstruct (vcons s (vcons (vint w64 0) (vcons (vint w16 0) (vcons (vint w16 0) (vcons (vint w16 0) vnil)))))
 
   abbrev d : Val
   d = LL.val HE.the-type HE′.the-laws header
@@ -222,8 +222,9 @@ module _ {M : Type 1} (𝓤 : URA M) (H : Heap 𝓤) (A : Atoms 𝓤) (W : Given
       (LL.owes P.the-type P′.the-laws (out r t) ((refl, r-fits), ((refl, t-fits), ((refl, place-fits), tt)))) $ move ! (1 ∷ 0 ∷ []) $ done !
 
   -- what the writer owns at the start, field by field
-  abbrev had : List Val × (List Val × (List Val × (List Val × Unit {0}))) → Fml
-  had vss = fsep (MutSlice (named 1) κ u8 .own (x ys) (vss .0)) (fsep (usize .own 0 (vss .1 .0)) (fsep (u16 .own 0 (vss .1 .1 .0)) (fsep (u16 .own 0 (vss .1 .1 .1 .0)) ftrue)))
+  abbrev had : List Val × (List Val × (List Val × (List Val × (List Val × Unit {0})))) → Fml
+  had vss = fsep (MutSlice (named 1) κ u8 .own (x ys) (vss .0))
+      (fsep (usize .own 0 (vss .1 .0)) (fsep (u16 .own 0 (vss .1 .1 .0)) (fsep (u16 .own 0 (vss .1 .1 .1 .0)) (fsep (u16 .own 0 (vss .1 .1 .1 .1 .0)) ftrue))))
 
   module _ (C : Calls 𝓤 H) (Λ : Loops 𝓤 H) (fm : FmC 𝓤 H (W .laws) C) (known-header : Triple 𝓤 (C #writer·write-header) (HC))
       (known-record : Triple 𝓤 (C #writer·write-record) (RC)) where
@@ -239,15 +240,23 @@ module _ {M : Type 1} (𝓤 : URA M) (H : Heap 𝓤) (A : Atoms 𝓤) (W : Given
         assigns ! (addr ! (from ! (fld ! refl (hop ! (look-in ! 20 (sub ! 0 refl (whole !))) (stop !))))) (from ! (stop !)) (init ! 8 refl (tt, tt)) $
         assigns ! (agg ! (and-then ! (load ! (from ! (stop !)) (look ! 8 refl))
         (and-then ! (load ! (from ! (fld ! refl (stop !))) (look-in ! 20 (sub ! 1 refl (whole !)))) (no-more !)))) (from ! (stop !)) (init ! 6 refl (tt, (tt, (record { fits = room .0 }, tt)))) $
-        assigns ! (agg ! (and-then ! (load ! (from ! (stop !)) (look ! 6 refl)) (and-then ! (lit ! tt) (and-then ! (lit ! tt) (and-then ! (lit ! tt) (no-more !)))))) (from ! (stop !))
-        (init ! 14 refl (tt, ((tt, (record { fits = room .0 }, tt)), (record { fits = lit< tt }, (record { fits = lit< tt }, (record { fits = lit< tt }, tt)))))) $
+        assigns ! (agg ! (and-then ! (load ! (from ! (stop !)) (look ! 6 refl))
+        (and-then ! (lit ! tt) (and-then ! (lit ! tt) (and-then ! (lit ! tt) (and-then ! (lit ! tt) (no-more !))))))) (from ! (stop !))
+        (init ! 14 refl (
+          tt,
+          (
+            (tt, (record { fits = room .0 }, tt)),
+            (record { fits = lit< tt }, (record { fits = lit< tt }, (record { fits = lit< tt }, (record { fits = lit< tt }, tt)))),
+          ),
+        )) $
         assigns ! (addr ! (from ! (stop !))) (from ! (stop !)) (init ! 4 refl (tt, tt)) $
         -- make the writer in the local
         move ! (25 ∷ []) $ fsplit ! $ nothing ! $ owned ! u16 (Is u16) (uint-makes 𝓤 H A W w16) 0 _ (refl, lit< tt) $ fjoin ! $
-        owned ! u16 (Is u16) (uint-makes 𝓤 H A W w16) 0 _ (refl, lit< tt) $ fjoin ! $ owned ! usize (Is usize) (uint-makes 𝓤 H A W w64) 0 _ (refl, lit< tt) $ fjoin ! $
-        move ! (1 ∷ 0 ∷ []) $ fjoin ! $
+        owned ! u16 (Is u16) (uint-makes 𝓤 H A W w16) 0 _ (refl, lit< tt) $ fjoin ! $ owned ! u16 (Is u16) (uint-makes 𝓤 H A W w16) 0 _ (refl, lit< tt) $ fjoin ! $
+        owned ! usize (Is usize) (uint-makes 𝓤 H A W w64) 0 _ (refl, lit< tt) $ fjoin ! $ move ! (1 ∷ 0 ∷ []) $ fjoin ! $
         use1 W (‵ (R .own h₀ (mach₀ ∷ [])))
-        (makes 𝓤 H A W (MutSlice (named 1) κ u8 ∷ usize ∷ u16 ∷ u16 ∷ []) had (s ∷ [], (vint w64 0 ∷ [], (vint w16 0 ∷ [], (vint w16 0 ∷ [], tt))))) $
+        (makes 𝓤 H A W (MutSlice (named 1) κ u8 ∷ usize ∷ u16 ∷ u16 ∷ u16 ∷ []) had
+        (s ∷ [], (vint w64 0 ∷ [], (vint w16 0 ∷ [], (vint w16 0 ∷ [], (vint w16 0 ∷ [], tt)))))) $
         move ! (16 ∷ []) $ use1 W (‵ (cellAt fullShare (R .mir) (mach₀ ∷ []) l₄ 0)) (W .laws .at-raw fullShare (T′.mir erased) l₄ 0 mach₀) $
         use2 W (‵ (mem R .lies h₀ l₄ 0)) (into-local 𝓤 H A W R l₄ h₀ (mach₀ ∷ [])) $
         move ! (25 ∷ []) $ split ! $ move ! (2 ∷ 0 ∷ []) $

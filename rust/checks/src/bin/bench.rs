@@ -8,7 +8,7 @@ use checks::random::Random;
 use checks::{baseline, baseline_list};
 use greystroke::{
     check_list, draw_list, draw_shape, Clip, Disc, Header, Line, Record, Refusal, Ring, Setting,
-    Shape, Size, Writer,
+    Shape, Size, Writer, LATEST_VERSION, PLAYERS,
 };
 use std::hint::black_box;
 use std::mem::take;
@@ -256,6 +256,7 @@ fn started(list: &mut [u8]) -> Writer<'_> {
     };
     let mut writer = Writer::new(list);
     let header = Header {
+        version: LATEST_VERSION,
         size,
         background: 255,
     };
@@ -267,8 +268,13 @@ fn write(writer: &mut Writer, record: Record) {
     writer.write_record(record).expect("a lawful record");
 }
 
-/// A shape, most with a level of their own and one in eight with a clip.
-fn write_mixed(random: &mut Random, writer: &mut Writer) {
+/// A shape, most with a level of their own, one in eight with a clip, and every eighth of the next
+/// player.
+fn write_mixed(random: &mut Random, writer: &mut Writer, number: usize) {
+    if number.is_multiple_of(8) {
+        let player = (number / 8 % PLAYERS) as u8;
+        write(writer, Record::Setting(Setting::Player(player)));
+    }
     if random.one_in(8) {
         write(writer, Record::Setting(Setting::Clip(wide_clip(random))));
     }
@@ -283,8 +289,8 @@ fn mixed_list(shapes: usize) -> Vec<u8> {
     let mut random = Random::new(11);
     let mut list = vec![0; LONGEST_LIST];
     let mut writer = started(&mut list);
-    for _ in 0..shapes {
-        write_mixed(&mut random, &mut writer);
+    for number in 0..shapes {
+        write_mixed(&mut random, &mut writer, number);
     }
     write(&mut writer, Record::End);
     let length = writer.place;
@@ -297,8 +303,10 @@ fn full_list() -> Vec<u8> {
     let mut random = Random::new(12);
     let mut list = vec![0; LONGEST_LIST];
     let mut writer = started(&mut list);
+    let mut number = 0;
     while writer.place + 40 < LONGEST_LIST {
-        write_mixed(&mut random, &mut writer);
+        write_mixed(&mut random, &mut writer, number);
+        number += 1;
     }
     // A ring has seven bytes and a level two, so that the end record comes last.
     if writer.place.is_multiple_of(2) {

@@ -32,9 +32,9 @@ returns c =
     let taken = call .before in
     let kind = taken .before .before in
     let clip = kind .before .before in
-    let sides = clip .before in
+    let size = clip .before in
     rw (kind .match .keys1)
-    (rw (taken .disc-of .ensures, clip .clip-of .ensures, sides .side2 .ensures, sides .before .side .ensures) at (call .draw-disc .ensures))
+    (rw (taken .disc-of .ensures, clip .clip-of .ensures, size .unsigned2 .ensures, size .before .unsigned .ensures) at (call .draw-disc .ensures))
 
 -- a ring
 returns-2 : tie.Need-returns-2
@@ -44,9 +44,9 @@ returns-2 c =
     let taken = call .before in
     let kind = taken .before .before in
     let clip = kind .before .before in
-    let sides = clip .before in
+    let size = clip .before in
     rw (kind .match .keys2)
-    (rw (taken .ring-of .ensures, clip .clip-of .ensures, sides .side2 .ensures, sides .before .side .ensures) at (call .draw-ring .ensures))
+    (rw (taken .ring-of .ensures, clip .clip-of .ensures, size .unsigned2 .ensures, size .before .unsigned .ensures) at (call .draw-ring .ensures))
 
 -- a line
 returns-3 : tie.Need-returns-3
@@ -56,10 +56,10 @@ returns-3 c =
     let taken = call .before in
     let kind = taken .before .before in
     let clip = kind .before .before .before .before in
-    let sides = clip .before in
-    let given = sides .before .before .before .args .shape in
+    let size = clip .before in
+    let given = size .before .before .before .args .shape in
     rw (line-taken (given .kind) (given .numbers) (kind .before .if1 .left) (kind .if2 .taken))
-    (rw (taken .line-of .ensures, clip .clip-of .ensures, sides .side2 .ensures, sides .before .side .ensures) at (call .draw-line .ensures))
+    (rw (taken .line-of .ensures, clip .clip-of .ensures, size .unsigned2 .ensures, size .before .unsigned .ensures) at (call .draw-line .ensures))
 
 -- no shape
 returns-4 : tie.Need-returns-4

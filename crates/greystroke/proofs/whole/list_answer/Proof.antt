@@ -1,4 +1,4 @@
--- Each arm has the numbers of its answer.
+-- Each arm has the numbers of its answer, and the counts.
 use Rattle.greystroke.specs.Whole.{listAnswered}
 use borrow.Author.Needs.{needs}
 use Rattle.greystroke.proofs.whole.list_answer.Statement.{statement}

@@ -1,4 +1,4 @@
--- The library's answer in C's form, and its list, by the W and H that are taken.
+-- The library's answer in C's form, and its list, by the basis that is taken.
 use mathlib.Core.Path.{_∙_, ap}
 use borrow.Author.Needs.{needs}
 use Rattle.greystroke.specs.Lists.{writeAnswer, recordPut, afterRecord}
@@ -9,15 +9,11 @@ returns : tie.Need-returns
 unfolding recordPut afterRecord
 returns c =
     let call = c .before .before .before in
-    let two = call .before in
-    let one = two .before in
-    let a = one .before .before .before .args in
-    let written = rw (one .side .ensures, two .side2 .ensures) at (call .write-record .ensures) in
-    (c .write-answer .ensures ∙ ap (writeAnswer (a .w) (a .h)) (written .0), written .1)
+    let kept = call .before .before in
+    let a = kept .before .before .args in
+    let written = rw (kept .basis-of .ensures) at (call .write-record .ensures) in
+    (c .write-answer .ensures ∙ ap (writeAnswer (a .basis)) (written .0), written .1)
 
 pub write-spec : {M : Type 1} → statement M
 write-spec =
-    tie.close
-    (tie.spec
-    (λ c κs. search needs) (λ c κs. search needs) (λ c κs. search needs) (λ c κs. search needs) (λ c. search needs)
-    returns)
+    tie.close (tie.spec (λ c κs. search needs) (λ c κs. search needs) (λ c κs. search needs) (λ c. search needs) returns)

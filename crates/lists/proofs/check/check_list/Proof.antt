@@ -31,7 +31,10 @@ returns-2 c =
     ap (checkedAs _) (sym (refused-next _ _ (none s) (rw (c .before .before .read-header .ensures) at (c .before .page-refusal .ensures)) (c .if2 .taken)))
 
 check-records-requires : tie.Need-check-records-requires
-check-records-requires c κs = let s = c .before .before .before in headed [] (list s) (none s) .least
+check-records-requires c κs =
+    let read = c .before .before in
+    let d = headed [] (list (read .before)) (none (read .before)) in
+    (d .least, rw (read .read-header .ensures) (d .basis))
 
 returns-3 : tie.Need-returns-3
 returns-3 c =

@@ -20,13 +20,18 @@ abbrev μ-loop : tie.MeasureT-loop
 loop-holds : tie.Need-loop-holds Inv-loop μ-loop
 loop-holds c =
     let s = c .before .before in
-    rw (c .basis-of .ensures) (reached-start (s .args .header) _ (now (s .args .list)) headerSize (s .pre))
+    rw (c .basis-of .ensures) (reached-start (s .args .header) _ (now (s .args .list)) headerSize (s .pre .0))
 
-sub-read-refusal : tie.Need-sub-read-refusal Inv-loop μ-loop
-sub-read-refusal c = c .loop .inv .inside
+sub-front-refusal : tie.Need-sub-front-refusal Inv-loop μ-loop
+sub-front-refusal c = c .loop .inv .inside
+
+front-refusal-requires : tie.Need-front-refusal-requires Inv-loop μ-loop
+front-refusal-requires c κs =
+    let basis = c .before .before in
+    rw (basis .basis-of .ensures) (basis .before .before .pre .1)
 
 returns : tie.Need-returns Inv-loop μ-loop
-returns c = refused-here (c .before .before .before .loop .inv) (c .before .read-refusal .ensures) (c .if1 .taken)
+returns c = refused-here (c .before .before .before .loop .inv) (c .before .front-refusal .ensures) (c .if1 .taken)
 
 -- a turn where no refusal was found
 module _ (c : tie.Else1 Inv-loop μ-loop) where
@@ -35,7 +40,7 @@ module _ (c : tie.Else1 Inv-loop μ-loop) where
 
   inside : (0 < kindSize (getD (now (turn .before .before .before .args .list)) (turn .loop .place) 0))
       × (turn .loop .place + kindSize (getD (now (turn .before .before .before .args .list)) (turn .loop .place) 0) ≤ length (now (turn .before .before .before .args .list)))
-  inside = next-inside (turn .loop .inv) (c .before .read-refusal .ensures) (c .if1 .left)
+  inside = next-inside (turn .loop .inv) (c .before .front-refusal .ensures) (c .if1 .left)
 
 shared-slice-read-kind : tie.Need-shared-slice-read-kind Inv-loop μ-loop
 shared-slice-read-kind c = let next = inside (c .before) in omega arith
@@ -43,20 +48,20 @@ shared-slice-read-kind c = let next = inside (c .before) in omega arith
 next-place-requires : tie.Need-next-place-requires Inv-loop μ-loop
 next-place-requires c κs =
     let one = c .before in
-    (turn one .loop .inv .inside, stands-whole (turn one .loop .inv) (one .before .read-refusal .ensures) (one .if1 .left))
+    (turn one .loop .inv .inside, stands-whole (turn one .loop .inv) (one .before .front-refusal .ensures) (one .if1 .left))
 
 returns-2 : tie.Need-returns-2 Inv-loop μ-loop
 returns-2 c =
     let next = c .before .before in
     let one = next .before .before in
     rw (next .next-place .ensures)
-    (surplus (turn one .loop .inv) (one .before .read-refusal .ensures) (one .if1 .left) (c .before .if2 .taken) (omega (arith, next .next-place .ensures, c .if3 .taken)))
+    (surplus (turn one .loop .inv) (one .before .front-refusal .ensures) (one .if1 .left) (c .before .if2 .taken) (omega (arith, next .next-place .ensures, c .if3 .taken)))
 
 returns-3 : tie.Need-returns-3 Inv-loop μ-loop
 returns-3 c =
     let next = c .before .before in
     let one = next .before .before in
-    accepted-here (turn one .loop .inv) (one .before .read-refusal .ensures) (one .if1 .left) (c .before .if2 .taken) (omega (arith, next .next-place .ensures, c .if3 .left))
+    accepted-here (turn one .loop .inv) (one .before .front-refusal .ensures) (one .if1 .left) (c .before .if2 .taken) (omega (arith, next .next-place .ensures, c .if3 .left))
 
 loop-less : tie.Need-loop-less Inv-loop μ-loop
 loop-less c =
@@ -68,7 +73,7 @@ loop-again : tie.Need-loop-again Inv-loop μ-loop
 loop-again c =
     let next = c .before in
     let one = next .before .before in
-    rw (next .next-place .ensures) (next-reached (turn one .loop .inv) (one .before .read-refusal .ensures) (one .if1 .left) (c .if2 .left))
+    rw (next .next-place .ensures) (next-reached (turn one .loop .inv) (one .before .front-refusal .ensures) (one .if1 .left) (c .if2 .left))
 
 pub check-records-spec : {M : Type 1} → statement M
 check-records-spec =
@@ -78,8 +83,9 @@ check-records-spec =
     μ-loop
     (λ c κs. search needs)
     loop-holds
-    sub-read-refusal
-    (λ c. search needs) (λ c. search needs) (λ c κs. search needs)
+    sub-front-refusal
+    (λ c. search needs) (λ c. search needs)
+    front-refusal-requires
     returns
     shared-slice-read-kind
     next-place-requires

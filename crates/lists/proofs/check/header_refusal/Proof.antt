@@ -1,18 +1,10 @@
--- The tests are made in the order in which `headerRefusal` has them; of two, three and four, the number says how many were passed.
-use mathlib.Core.Path.{sym, _∙_}
-use mathlib.Core.List.{List}
-use Prim.Native.Nat.{ℕ}
+-- The tests are made in the order in which `headerRefusal` has them; of two and three, the number says how many were passed.
 use borrow.Author.Needs.{needs}
-use borrow.Author.Tests.{lt-ltb, le-ltb, eq-eqb, ne-eqb}
-use denote.Ref.{now}
+use borrow.Author.Tests.{lt-ltb, le-ltb}
 use Rattle.shapes.proofs.Limits.{tried-last}
-use Rattle.lists.specs.Format.{wordAt}
 use Rattle.lists.specs.List.{headerRefusal}
 use Rattle.lists.proofs.check.header_refusal.Statement.{statement}
 use Rattle.lists.proofs.check.header_refusal.Tie as tie
-
-abbrev list : tie.Else2 → List ℕ
-list two = now (two .before .before .before .args .list)
 
 returns : tie.Need-returns
 unfolding headerRefusal
@@ -31,20 +23,11 @@ returns-3 c =
 returns-4 : tie.Need-returns-4
 unfolding headerRefusal
 returns-4 c =
-    let three = c .before .before in
+    let read = c .before .before in
+    let three = read .before in
     let two = three .before .before in
-    let other = ne-eqb (wordAt (list two) 3) 1 (λ e. c .if4 .taken (c .before .word-at .ensures ∙ e)) in
-    simp (le-ltb _ _ (two .before .if1 .left), le-ltb _ _ (two .if2 .left), ← three .before .has-mark .ensures, three .if3 .left, other)
-
-returns-5 : tie.Need-returns-5
-unfolding headerRefusal
-returns-5 c =
-    let four = c .before .before in
-    let three = four .before .before in
-    let two = three .before .before in
-    let one = eq-eqb (wordAt (list two) 3) 1 (sym (four .before .word-at .ensures) ∙ four .if4 .left) in
-    simp (le-ltb _ _ (two .before .if1 .left), le-ltb _ _ (two .if2 .left), ← three .before .has-mark .ensures, three .if3 .left, one, tried-last)
-    (rw (c .before .read-header .ensures) at (c .size-refusal .ensures))
+    simp (le-ltb _ _ (two .before .if1 .left), le-ltb _ _ (two .if2 .left), ← three .before .has-mark .ensures, three .if3 .left, tried-last)
+    (rw (c .before .basis-of .ensures, read .read-header .ensures) at (c .basis-refusal .ensures))
 
 pub header-refusal-spec : {M : Type 1} → statement M
 header-refusal-spec =
@@ -54,7 +37,5 @@ header-refusal-spec =
     returns-2
     (λ c κs. search needs)
     returns-3
-    (λ c κs. search needs)
-    returns-4
-    (λ c κs. search needs) (λ c κs. search needs)
-    returns-5)
+    (λ c κs. search needs) (λ c κs. search needs) (λ c κs. search needs)
+    returns-4)

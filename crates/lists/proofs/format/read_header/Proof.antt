@@ -1,8 +1,8 @@
--- Two words and a byte at their places.
+-- Three words and a byte at their places.
 use borrow.Author.Needs.{needs}
 use Rattle.lists.proofs.format.read_header.Statement.{statement}
 use Rattle.lists.proofs.format.read_header.Tie as tie
 
 pub read-header-spec : {M : Type 1} → statement M
 read-header-spec =
-    tie.close (tie.spec (λ c κs. search needs) (λ c κs. search needs) (λ c. search needs) (λ c. cc))
+    tie.close (tie.spec (λ c κs. search needs) (λ c κs. search needs) (λ c κs. search needs) (λ c. search needs) (λ c. cc))

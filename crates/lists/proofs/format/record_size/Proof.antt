@@ -1,17 +1,13 @@
--- The first byte of a record is its kind, and the size of a kind is the length of its records.
-use mathlib.Core.List.{List}
+-- The size of a kind is the length of its records.
 use mathlib.Core.Path.{_∙_, ap}
-use Prim.Native.Nat.{ℕ}
 use borrow.Author.Needs.{needs}
-use lib.ListN.{getD}
 use Rattle.lists.specs.Format.{kindSize}
 use Rattle.lists.proofs.Bytes.{record-size}
 use Rattle.lists.proofs.format.record_size.Statement.{statement}
 use Rattle.lists.proofs.format.record_size.Tie as tie
 
 returns : tie.Need-returns
-returns c = c .kind-size .ensures ∙ ap (λ (bs : List ℕ). kindSize (getD bs 0 0)) (c .before .record-bytes .ensures) ∙ record-size (c .before .before .args .rec)
+returns c = c .kind-size .ensures ∙ ap kindSize (c .before .record-kind .ensures) ∙ record-size (c .before .before .args .rec)
 
 pub record-size-spec : {M : Type 1} → statement M
-record-size-spec =
-    tie.close (tie.spec (λ c κs. search needs) (λ c. search needs) (λ c κs. search needs) returns)
+record-size-spec = tie.close (tie.spec (λ c κs. search needs) (λ c κs. search needs) returns)

@@ -10,6 +10,7 @@ unfolding kindOf fieldsOf
 setting-bytes-spec =
     tie.close
     (tie.spec
-    (λ c. search needs) (λ c κs. search needs) (λ c. search needs)
+    (λ c. search needs) (λ c κs. search needs) (λ c. search needs) (λ c. search needs)
     (λ c. rw (c .before .before .setting .given .1) (c .four-words .ensures))
-    (λ c. rw (c .before .setting2 .given .1)))
+    (λ c. rw (c .before .setting2 .given .1))
+    (λ c. rw (c .before .setting3 .given .1)))

@@ -1,4 +1,4 @@
--- A setting changes its own field and keeps the other.
+-- A setting changes its own field and keeps the others.
 use Rattle.lists.specs.Settings.{inForce}
 use borrow.Author.Needs.{needs}
 use Rattle.lists.proofs.settings.settings_with.Statement.{statement}
@@ -9,6 +9,7 @@ unfolding inForce
 settings-with-spec =
     tie.close
     (tie.spec
-    (λ c. search needs) (λ c. search needs)
+    (λ c. search needs) (λ c. search needs) (λ c. search needs)
     (λ c. rw (c .before .setting .given .1))
-    (λ c. rw (c .before .setting2 .given .1)))
+    (λ c. rw (c .before .setting2 .given .1))
+    (λ c. rw (c .before .setting3 .given .1)))

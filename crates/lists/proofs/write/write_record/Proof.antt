@@ -1,40 +1,42 @@
 -- A refusal changes nothing; else the record is writable, and its first bytes are put at the place.
-use mathlib.Core.Path.{_≡_, _∙_, sym, ap₂}
-use Prim.Native.Nat.{_+_}
+use mathlib.Core.Path.{_≡_, _∙_, sym, ap, ap₂}
+use Prim.Native.Nat.{ℕ, _+_}
 use native.Mathlib.Omega.{arith}
 use borrow.Author.Needs.{needs}
 use lib.ListN.{length}
 use lib.Seq.{paste}
 use denote.Ref.{now}
-use Rattle.shapes.specs.Limits.{sized}
+use Rattle.shapes.specs.Limits.{basisBy}
+use Rattle.shapes.specs.declared.Basis.{Basis}
 use Rattle.lists.specs.Format.{recordBytes}
-use Rattle.lists.specs.Write.{recordWriteRefusal}
+use Rattle.lists.specs.Write.{recordWriteRefusal, writtenAs}
 use Rattle.lists.proofs.Bytes.{record-most, put-padded}
 use Rattle.lists.proofs.Refusals.{one-byte}
 use Rattle.lists.proofs.Writes.{record-refused, record-done, Writable, writable}
 use Rattle.lists.proofs.write.write_record.Statement.{statement}
 use Rattle.lists.proofs.write.write_record.Tie as tie
 
+-- the basis that is held
+abbrev held : tie.Start → Basis
+held s = basisBy (s .args .version) (s .args .w) (s .args .h)
+
 returns : tie.Need-returns
 returns c =
     let call = c .before .before in
-    let a = call .before .before .args in
-    let kept = record-refused (now (a .list)) (a .place) (a .w) (a .h) (a .rec) (sym (call .record-write-refusal .ensures)) (c .before .if1 .taken) in
-    (c .refused .ensures ∙ kept .0, kept .1)
+    let s = call .before .before in
+    let kept = record-refused (now (s .args .list)) (s .args .place) (held s) (s .args .rec) (sym (call .record-write-refusal .ensures)) (c .before .if1 .taken) in
+    (c .written-as .ensures ∙ kept .0, kept .1)
 
 -- no refusal
 module _ (c : tie.Else1) where
   abbrev start : tie.Start
   start = c .before .before .before
 
-  none : recordWriteRefusal (length (now (start .args .list))) (start .args .place) (sized (start .args .w) (start .args .h)) (start .args .rec) ≡ 0
+  none : recordWriteRefusal (length (now (start .args .list))) (start .args .place) (held start) (start .args .rec) ≡ 0
   none = sym (c .before .record-write-refusal .ensures) ∙ omega arith
 
-  fit : Writable (length (now (start .args .list))) (start .args .place) (sized (start .args .w) (start .args .h)) (start .args .rec)
-  fit = writable _ _ (sized (start .args .w) (start .args .h)) _ none
-
-record-size-requires : tie.Need-record-size-requires
-record-size-requires c κs = one-byte _ _ (fit c .lawful)
+  fit : Writable (length (now (start .args .list))) (start .args .place) (held start) (start .args .rec)
+  fit = writable _ _ (held start) _ none
 
 record-bytes-requires : tie.Need-record-bytes-requires
 record-bytes-requires c κs = one-byte _ _ (fit (c .before .before) .lawful)
@@ -44,8 +46,8 @@ put-requires c κs =
     let size = c .before .before in
     rw (size .record-size .ensures) (record-most (start (size .before) .args .rec), fit (size .before) .room .inside)
 
-add-t8 : tie.Need-add-t8
-add-t8 c =
+add-written-as : tie.Need-add-written-as
+add-written-as c =
     let bytes = c .before .before .before in
     let size = bytes .before .before in
     let room = fit (size .before) .room in
@@ -53,14 +55,15 @@ add-t8 c =
 
 returns-2 : tie.Need-returns-2
 returns-2 c =
-    let bytes = c .before .before .before in
+    let put = c .before .before .before in
+    let bytes = put .before in
     let size = bytes .before .before in
-    let a = start (size .before) .args in
-    let l = now (a .list) in
+    let s = start (size .before) in
+    let l = now (s .args .list) in
     let long = size .record-size .ensures in
-    let done = record-done l (a .place) (a .w) (a .h) (a .rec) (none (size .before)) in
-    let put = ap₂ (paste l (a .place)) (bytes .record-bytes .ensures) long ∙ put-padded l (a .place) (recordBytes (a .rec)) in
-    ((λ i. record { refusal = 0; place = a .place + long i; w = a .w; h = a .h }) ∙ done .0, c .before .before .put .ensures ∙ put ∙ done .1)
+    let done = record-done l (s .args .place) (held s) (s .args .rec) (none (size .before)) in
+    let same = ap₂ (paste l (s .args .place)) (bytes .record-bytes .ensures) long ∙ put-padded l (s .args .place) (recordBytes (s .args .rec)) in
+    (c .written-as2 .ensures ∙ ap (λ (n : ℕ). writtenAs 0 (s .args .place + n) (held s)) long ∙ done .0, put .put .ensures ∙ same ∙ done .1)
 
 pub write-record-spec : {M : Type 1} → statement M
 write-record-spec =
@@ -68,9 +71,9 @@ write-record-spec =
     (tie.spec
     (λ c κs. search needs) (λ c κs. search needs)
     returns
-    record-size-requires
+    (λ c κs. search needs)
     record-bytes-requires
     put-requires
-    add-t8
-    (λ c. search needs)
+    add-written-as
+    (λ c κs. search needs) (λ c. search needs)
     returns-2)

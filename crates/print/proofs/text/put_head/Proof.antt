@@ -10,13 +10,12 @@ returns : tie.Need-returns
 unfolding headText
 returns c =
     let last = c .before .before in
-    let cast = last .before .before in
-    let three = cast .before .before .before in
+    let three = last .before .before .before .before .before in
     let two = three .before .before .before .before in
     let one = two .before .before .before .before in
     let first = one .before .before .before .before in
-    let numbers = behind _ (two .put-number2 .ensures .0) (behind _ (one .put-number .ensures .0) (first .put-bytes .ensures .0)) in
-    (behind _ (last .put-bytes2 .ensures .0) (behind _ (three .put-number3 .ensures .0) numbers), omega arith)
+    let numbers = behind _ (two .put-number .ensures .0) (behind _ (one .put-counts .ensures .0) (first .put-bytes .ensures .0)) in
+    (behind _ (last .put-bytes2 .ensures .0) (behind _ (three .put-number2 .ensures .0) numbers), omega arith)
 
 pub put-head-spec : {M : Type 1} → statement M
 put-head-spec =

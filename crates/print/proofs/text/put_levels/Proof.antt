@@ -5,8 +5,8 @@ use Prim.Native.Nat.{_+_, _*_, _-_, _≤_}
 use native.Mathlib.Omega.{arith}
 use borrow.Author.Needs.{needs}
 use lib.ListN.{length, take, drop}
-use Rattle.print.specs.Text.{levelsText}
-use Rattle.print.proofs.Written.{level-step, levels-end}
+use Rattle.print.specs.Text.{afterLevel, nextColumn, levelsText}
+use Rattle.print.proofs.Written.{number-step, numbers-end}
 use Rattle.print.proofs.text.put_levels.Statement.{statement}
 use Rattle.print.proofs.text.put_levels.Tie as tie
 
@@ -28,7 +28,7 @@ loop-again c =
     let turn = level .before .before .before .before in
     let a = turn .before .before .before .args in
     let l = turn .loop in
-    let text = level-step (a .w) (l .x) (l .i) _ (c .next-column .result) (a .levels .now) (take (l .next) (l .out)) _ _ (omega arith) (l .inv .4)
+    let text = number-step 3 (afterLevel (a .w)) (nextColumn (a .w)) (l .x) (l .i) _ (c .next-column .result) (a .levels .now) (take (l .next) (l .out)) _ _ (omega arith) (l .inv .4)
     (put .put-level .ensures .0) (level .after-level .ensures) (c .next-column .ensures .0) in
     (omega arith, search needs, omega arith, omega arith, text)
 
@@ -36,7 +36,7 @@ returns : tie.Need-returns Inv-loop μ-loop
 returns c =
     let a = c .before .before .before .before .args in
     let l = c .before .loop in
-    (levels-end (a .w) (l .x) (l .i) (a .levels .now) _ _ (omega arith) (l .inv .4), omega arith)
+    (numbers-end 3 (afterLevel (a .w)) (nextColumn (a .w)) (l .x) (l .i) (a .levels .now) _ _ (omega arith) (l .inv .4), omega arith)
 
 pub put-levels-spec : {M : Type 1} → statement M
 put-levels-spec =

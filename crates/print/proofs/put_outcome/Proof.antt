@@ -2,8 +2,8 @@
 use native.Mathlib.Omega.{arith}
 use Rattle.print.specs.Printed.{answerText}
 use borrow.Author.Needs.{needs}
-use Rattle.print.proofs.put_answer.Statement.{statement}
-use Rattle.print.proofs.put_answer.Tie as tie
+use Rattle.print.proofs.put_outcome.Statement.{statement}
+use Rattle.print.proofs.put_outcome.Tie as tie
 
 returns : tie.Need-returns
 unfolding answerText
@@ -17,8 +17,8 @@ returns-2 c =
     let call = c .before .before in
     rw (call .before .before .before .answer2 .given .1) (call .put-refusal .ensures .0, omega arith)
 
-pub put-answer-spec : {M : Type 1} → statement M
-put-answer-spec =
+pub put-outcome-spec : {M : Type 1} → statement M
+put-outcome-spec =
     tie.close
     (tie.spec
     (λ c. search needs) (λ c κs. search needs) (λ c. search needs) (λ c κs. search needs) (λ c. search needs)

@@ -3,17 +3,17 @@ use mathlib.Core.Path.{sym}
 use native.Mathlib.Omega.{arith}
 use borrow.Author.Needs.{needs}
 use borrow.Author.Tests.{lt-ltb, le-ltb}
-use Rattle.greystroke.specs.Taken.{sideOf}
-use Rattle.greystroke.proofs.taken.side.Statement.{statement}
-use Rattle.greystroke.proofs.taken.side.Tie as tie
+use Rattle.greystroke.specs.Taken.{unsignedOf}
+use Rattle.greystroke.proofs.taken.unsigned.Statement.{statement}
+use Rattle.greystroke.proofs.taken.unsigned.Tie as tie
 
 returns : tie.Need-returns
-unfolding sideOf
+unfolding unsignedOf
 returns c = rw (lt-ltb 65535 (c .before .args .n) (omega arith))
 
 returns-2 : tie.Need-returns-2
-unfolding sideOf
+unfolding unsignedOf
 returns-2 c = sym (rw (le-ltb 65535 (c .before .args .n) (omega arith)))
 
-pub side-spec : {M : Type 1} → statement M
-side-spec = tie.close (tie.spec returns (λ c. search needs) returns-2)
+pub unsigned-spec : {M : Type 1} → statement M
+unsigned-spec = tie.close (tie.spec returns (λ c. search needs) returns-2)

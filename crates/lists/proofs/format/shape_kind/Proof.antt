@@ -1,0 +1,15 @@
+-- Each arm has the kind of its shape.
+use borrow.Author.Needs.{needs}
+use Rattle.lists.specs.Format.{kindOf}
+use Rattle.lists.proofs.format.shape_kind.Statement.{statement}
+use Rattle.lists.proofs.format.shape_kind.Tie as tie
+
+pub shape-kind-spec : {M : Type 1} → statement M
+unfolding kindOf
+shape-kind-spec =
+    tie.close
+    (tie.spec
+    (λ c. search needs) (λ c κs. search needs) (λ c. search needs) (λ c. search needs)
+    (λ c. rw (c .before .before .shape .given .1) (c .line-kind .ensures))
+    (λ c. rw (c .enum-told .given .1))
+    (λ c. rw (c .enum-told2 .given .1)))
