@@ -2,13 +2,14 @@
 use mathlib.Core.Path.{_≡_, refl, sym, _∙_, ap, ap₂, subst}
 use mathlib.Core.Bool.{Bool, true, false, cond}
 use mathlib.Core.List.{List, [], _∷_, _++_}
-use Prim.Native.Nat.{ℕ, zero, suc, _+_, _≤_, _<_}
+use Prim.Native.Nat.{ℕ, _+_, _≤_, _<_}
 use native.Mathlib.Omega.{arith}
 use borrow.Author.Tests.{eq-eqb, ne-eqb, eqb-true, eqb-false}
 use lib.Dec.{eqb}
 use lib.ListN.{length, getD, set}
 use lib.Seq.{ext-getD, getD-set-same, getD-set-other}
 use Rattle.numbers.specs.Sum.{sumTo, total}
+use Rattle.numbers.proofs.Order.{below, cond-le}
 use Rattle.numbers.proofs.Sum.{sum-one, sum-total}
 use Rattle.shapes.specs.declared.Record.{Record}
 use Rattle.shapes.specs.declared.Record.the-variants.{End as end, Setting as setting, Shape as shape}
@@ -23,15 +24,7 @@ use Rattle.drawing.proofs.Shapes.{counts-same}
 
 -- the number of player p
 pub player-number : (n : ℕ → ℕ) (p : ℕ) → p < 8 → getD (byPlayer n) p 0 ≡ n p
-player-number n zero h = refl
-player-number n (suc zero) h = refl
-player-number n (suc (suc zero)) h = refl
-player-number n (suc (suc (suc zero))) h = refl
-player-number n (suc (suc (suc (suc zero)))) h = refl
-player-number n (suc (suc (suc (suc (suc zero))))) h = refl
-player-number n (suc (suc (suc (suc (suc (suc zero)))))) h = refl
-player-number n (suc (suc (suc (suc (suc (suc (suc zero))))))) h = refl
-player-number n (suc (suc (suc (suc (suc (suc (suc (suc p)))))))) h = absurd (omega arith)
+player-number n = below 8 (λ p. getD (byPlayer n) p 0 ≡ n p) ((((((((tt, refl), refl), refl), refl), refl), refl), refl), refl)
 
 pub players-are : (n : ℕ → ℕ) (ts : List ℕ) → length ts ≡ 8 → ((p : ℕ) → getD ts p 0 ≡ n p) → ts ≡ byPlayer n
 players-are n ts e h = ext-getD 0 ts (byPlayer n) e (λ p i. h p ∙ sym (player-number n p (omega arith)))
@@ -92,11 +85,7 @@ own-total m p (d ∷ ds) = go (eqb (d .settings .player) p) (own-total m p ds)
     go false e = omega arith
 
 pub players-most : (v : ℕ) → playersIn v ≤ 8
-players-most v = go (eqb v 1)
-  where
-    go : (b : Bool) → cond b 1 8 ≤ 8
-    go true = omega arith
-    go false = omega arith
+players-most v = cond-le (eqb v 1) (omega arith) (omega arith)
 
 -- each drawing is counted for one of eight players
 each-once : (m : Drawing → ℕ) (v : ℕ) (ds : List Drawing) → AllLawful v ds → total (λ d. sumTo 8 (λ p. cond (eqb (d .settings .player) p) (m d) 0)) ds ≡ total m ds

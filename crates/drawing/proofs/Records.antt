@@ -1,12 +1,13 @@
 -- The records of a list, drawn one after the other.
 use mathlib.Core.Path.{_≡_, refl, sym, _∙_, ap, subst}
-use mathlib.Core.Bool.{Bool, true, false, cond}
+use mathlib.Core.Bool.{cond}
 use mathlib.Core.List.{List, _++_}
 use Prim.Native.Nat.{ℕ, _+_, _*_, _-_, _≤_, _<_}
 use native.Mathlib.Omega.{arith}
 use lib.Dec.{eqb}
 use lib.ListN.{length, getD, set, replicate, take, drop, length-set}
 use Rattle.numbers.specs.Sum.{total}
+use Rattle.numbers.proofs.Order.{cond-le}
 use Rattle.numbers.proofs.Sum.{total-++}
 use Rattle.shapes.specs.Limits.{sizeRefusal, shapeRefusal, recordRefusal}
 use Rattle.shapes.proofs.Limits.{basis-size}
@@ -151,12 +152,8 @@ module _ {b : Basis} {place : ℕ} {list goal l ts : List ℕ} {all : List Drawi
       few-left : (q : ℕ) → getD more q 0 ≤ 1048576 * after
       few-left q =
           let i = left-inside (p .left) in
-          let add : cond (eqb (f .player) q) k 0 ≤ 1048576 = at-most (eqb (f .player) q) in
+          let add : cond (eqb (f .player) q) k 0 ≤ 1048576 = cond-le (eqb (f .player) q) most (omega arith) in
           omega (arith, p .few q, raised ts (f .player) k q player-inside)
-        where
-          at-most : (t : Bool) → cond t k 0 ≤ 1048576
-          at-most true = most
-          at-most false = omega arith
 
       pub remaining-next : Remaining b list all goal after g m more
       remaining-next =

@@ -2,12 +2,15 @@
 use lib.Dec.{eqb}
 use mathlib.Core.Path.{_≡_, refl}
 use mathlib.Core.Bool.{Bool, true, false, cond}
+use mathlib.Core.Logic.{⊎-elim}
 use mathlib.Core.List.{List}
-use Prim.Native.Nat.{ℕ, zero, suc, _-_, _≤_, _<_}
+use Prim.Native.Nat.{ℕ, _-_, _≤_, _<_}
+use native.Mathlib.Nat.{zero-lt-suc}
 use native.Mathlib.Omega.{arith}
 use borrow.Author.Tests.{ne-eqb, ltb-false}
 use lib.ListN.{length, replicate}
 use lib.Seq.{paste, take-append-seam}
+use Rattle.numbers.proofs.Order.{lt-or-le, AllBelow, below, cond-le}
 use Rattle.shapes.specs.declared.Shape.the-variants.{Line as line, Disc as disc, Ring as ring}
 use Rattle.shapes.specs.declared.Setting.the-variants.{Clip as clip, Level as level, Player as player}
 use Rattle.shapes.specs.declared.Record.{Record}
@@ -34,44 +37,30 @@ record-size (shape (disc d)) = refl
 record-size (shape (ring g)) = refl
 
 -- kinds above 7 are unknown
-pub unknown-kind : (k : ℕ) → 7 < k → kindSize k ≡ 0
+unknown-kind : (k : ℕ) → 7 < k → kindSize k ≡ 0
 unfolding kindSize
 unknown-kind k h =
     let other : (j : ℕ) → j ≤ 7 → eqb k j ≡ false = λ j i. ne-eqb k j (λ e. omega arith) in
     simp (other 0 (omega arith), other 1 (omega arith), other 2 (omega arith), other 3 (omega arith), other 4 (omega arith), other 5 (omega arith), other 6 (omega arith), other 7 (omega arith))
 
 -- each kind of a version has a row
-last-most : (b : Bool) → cond b 6 7 ≤ 7
-last-most true = omega arith
-last-most false = omega arith
-
 pub known-kind : (v k : ℕ) → offKind v k ≡ false → 0 < kindSize k
 unfolding kindSize
-known-kind v k e = go k (let h = ltb-false (lastKind v) k e in omega (arith, last-most (eqb v 1)))
-  where
-    go : (k : ℕ) → k ≤ 7 → 0 < kindSize k
-    go zero h = omega arith
-    go (suc zero) h = omega arith
-    go (suc (suc zero)) h = omega arith
-    go (suc (suc (suc zero))) h = omega arith
-    go (suc (suc (suc (suc zero)))) h = omega arith
-    go (suc (suc (suc (suc (suc zero))))) h = omega arith
-    go (suc (suc (suc (suc (suc (suc zero)))))) h = omega arith
-    go (suc (suc (suc (suc (suc (suc (suc zero))))))) h = omega arith
-    go (suc (suc (suc (suc (suc (suc (suc (suc k)))))))) h = absurd (omega arith)
+known-kind v k e =
+    let last = ltb-false (lastKind v) k e in
+    let most : lastKind v ≤ 7 = cond-le (eqb v 1) (omega arith) (omega arith) in
+    let sizes : AllBelow 8 (λ j. 0 < kindSize j)
+    = ((((((((tt, zero-lt-suc 0), zero-lt-suc 8), zero-lt-suc 1), zero-lt-suc 8), zero-lt-suc 8), zero-lt-suc 5), zero-lt-suc 6), zero-lt-suc 1) in
+    below 8 (λ j. 0 < kindSize j) sizes k (omega arith)
+
+-- what holds of the kinds one by one holds of each known kind
+pub each-kind : (P : ℕ → Type 0) → AllBelow 8 P → (k : ℕ) → 0 < kindSize k → P k
+each-kind P rows k h = ⊎-elim (below 8 P rows k) (λ i. absurd (let z = unknown-kind k (omega arith) in omega arith)) (lt-or-le k 8)
 
 -- a record that was read is of the kind that it was read by
 pub kind-found : (k : ℕ) (s : List ℕ) → 0 < kindSize k → kindOf (decoded k s) ≡ k
-unfolding kindSize kindOf decoded
-kind-found zero s h = refl
-kind-found (suc zero) s h = refl
-kind-found (suc (suc zero)) s h = refl
-kind-found (suc (suc (suc zero))) s h = refl
-kind-found (suc (suc (suc (suc zero)))) s h = refl
-kind-found (suc (suc (suc (suc (suc zero))))) s h = refl
-kind-found (suc (suc (suc (suc (suc (suc zero)))))) s h = refl
-kind-found (suc (suc (suc (suc (suc (suc (suc zero))))))) s h = refl
-kind-found (suc (suc (suc (suc (suc (suc (suc (suc k)))))))) s h = absurd (let z = unknown-kind (suc (suc (suc (suc (suc (suc (suc (suc k)))))))) (omega arith) in omega arith)
+unfolding kindOf decoded
+kind-found k s = each-kind (λ j. kindOf (decoded j s) ≡ j) ((((((((tt, refl), refl), refl), refl), refl), refl), refl), refl) k
 
 pub record-most : (r : Record) → length (recordBytes r) ≤ recordMost
 unfolding fieldsOf

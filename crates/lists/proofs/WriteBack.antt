@@ -10,17 +10,17 @@ use lib.ListN.{length, getD, take, drop, length-append, length-drop, take-append
 use lib.Seq.{take-at, drop-append-add, drop-drop, drop-length, getD-drop, length-take-le, take-all}
 use Rattle.numbers.specs.Coordinate.{bitsOf, signedOf, wordOf, bytesOf}
 use Rattle.numbers.proofs.Coordinate.{bits-signed, bytes-word}
-use Rattle.numbers.proofs.Order.{both-true}
+use Rattle.numbers.proofs.Order.{AllBelow, both-true}
 use Rattle.shapes.specs.declared.Basis.{Basis}
 use Rattle.shapes.specs.declared.Record.{Record}
-use Rattle.lists.specs.Format.{listMost, headerSize, basisOf, kindSize, offKind, kindOf, fieldsOf, headerBytes, recordBytes, headerAt, kindAt, sizeAt, decoded, recordAt}
+use Rattle.lists.specs.Format.{listMost, headerSize, basisOf, kindSize, offKind, kindOf, words, coordinates, fieldsOf, headerBytes, recordBytes, wordAt, coordinateAt, headerAt, kindAt, sizeAt, decoded, recordAt}
 use Rattle.lists.specs.inner.Record.{Whole}
 use Rattle.lists.specs.Read.{readRefusal}
 use Rattle.lists.specs.Write.{putAt, writtenAs, recordWritten, recordList, recordsList, heldBy, listWritten, recordsWritten, writerAnswer}
 use Rattle.lists.specs.List.{markAt, accepted, recordsOf}
 use Rattle.lists.proofs.Refusals.{Readable, readable, Headed, headed}
 use Rattle.lists.specs.declared.write.Written.{Written}
-use Rattle.lists.proofs.Bytes.{unknown-kind, kind-found}
+use Rattle.lists.proofs.Bytes.{each-kind, kind-found}
 use Rattle.lists.proofs.Writes.{put-length, header-done, header-none, record-done, refusal-none}
 use Rattle.lists.proofs.Accepted.{Holds, last, more, list-headed, list-holds}
 
@@ -61,17 +61,28 @@ front e f = λ i. sym e i ∷ f i
 
 module _ (s : List ℕ) (b : AllBytes s) where
   -- kind by kind: a field that was read is written as the bytes that it was read from
-  kind-again : (k : ℕ) → 0 < kindSize k → getD s 0 0 ≡ k → recordBytes (decoded k s) ≡ firsts (kindSize k) 0 s
+  abbrev Again : ℕ → Type 0
+  Again k = getD s 0 0 ≡ k → recordBytes (decoded k s) ≡ firsts (kindSize k) 0 s
+
+  kinds-again : AllBelow 8 Again
   unfolding firsts kindSize kindOf fieldsOf decoded
-  kind-again zero h e = front e refl
-  kind-again (suc zero) h e = front e (word-then (b 1) (word-then (b 3) (word-then (b 5) (word-then (b 7) refl))))
-  kind-again (suc (suc zero)) h e = front e refl
-  kind-again (suc (suc (suc zero))) h e = front e (coordinate-then (b 1) (b 2) (coordinate-then (b 3) (b 4) (coordinate-then (b 5) (b 6) (coordinate-then (b 7) (b 8) refl))))
-  kind-again (suc (suc (suc (suc zero)))) h e = front e (coordinate-then (b 1) (b 2) (coordinate-then (b 3) (b 4) (coordinate-then (b 5) (b 6) (coordinate-then (b 7) (b 8) refl))))
-  kind-again (suc (suc (suc (suc (suc zero))))) h e = front e (coordinate-then (b 1) (b 2) (coordinate-then (b 3) (b 4) refl))
-  kind-again (suc (suc (suc (suc (suc (suc zero)))))) h e = front e (coordinate-then (b 1) (b 2) (coordinate-then (b 3) (b 4) refl))
-  kind-again (suc (suc (suc (suc (suc (suc (suc zero))))))) h e = front e refl
-  kind-again (suc (suc (suc (suc (suc (suc (suc (suc k)))))))) h e = absurd (let z = unknown-kind (suc (suc (suc (suc (suc (suc (suc (suc k)))))))) (omega arith) in omega arith)
+  kinds-again =
+      let edges : words (wordAt s 1 ∷ wordAt s 3 ∷ wordAt s 5 ∷ wordAt s 7 ∷ []) ≡ firsts 8 1 s
+      = word-then (b 1) (word-then (b 3) (word-then (b 5) (word-then (b 7) refl))) in
+      let ends : coordinates (coordinateAt s 1 ∷ coordinateAt s 3 ∷ coordinateAt s 5 ∷ coordinateAt s 7 ∷ []) ≡ firsts 8 1 s
+      = coordinate-then (b 1) (b 2) (coordinate-then (b 3) (b 4) (coordinate-then (b 5) (b 6) (coordinate-then (b 7) (b 8) refl))) in (
+        (
+          (
+            (((((tt, λ e. front e refl), λ e. front e edges), λ e. front e refl), λ e. front e ends), λ e. front e ends),
+            λ e. front e (coordinate-then (b 1) (b 2) (coordinate-then (b 3) (b 4) refl)),
+          ),
+          λ e. front e (coordinate-then (b 1) (b 2) (coordinate-then (b 3) (b 4) refl)),
+        ),
+        λ e. front e refl,
+      )
+
+  kind-again : (k : ℕ) → 0 < kindSize k → Again k
+  kind-again = each-kind Again kinds-again
 
   pub record-again : Whole s → recordBytes (recordAt s) ≡ take (sizeAt s) s
   record-again p = kind-again (kindAt s) (p .known) refl ∙ sym (take-firsts (sizeAt s) s (p .fits))

@@ -3,7 +3,7 @@
 use mathlib.Core.Bool.{Bool, true, false, cond, _&&_}
 use mathlib.Core.Path.{_≡_, refl, subst}
 use mathlib.Core.Logic.{_⊎_, inl, inr, ⊎-elim}
-use Prim.Native.Nat.{ℕ, _+_, _*_, _≤_, _<_}
+use Prim.Native.Nat.{ℕ, zero, suc, _+_, _*_, _≤_, _<_}
 use native.Mathlib.Nat.{le-dest, mul-le-mul, lt-of-not-le, mul-add, add-mul, mul-assoc, mul-comm, mul-left-comm, one-mul, mul-one}
 use native.Mathlib.Decide.{decLe}
 use native.Mathlib.Omega.{arith}
@@ -29,6 +29,15 @@ eq-or-ne a b = go (lt-or-le a b) (lt-or-le b a)
 -- what holds of a + k, for every k, holds of each b from a on
 pub from-le : {a b : ℕ} (P : ℕ → Type 0) → a ≤ b → ((k : ℕ) → P (a + k)) → P b
 from-le P h f = subst P (le-dest h .1) (f (le-dest h .0))
+
+-- what holds of 0, 1 and so on, n of them one by one, holds of each k below n
+abbrev pub AllBelow : ℕ → (ℕ → Type 0) → Type 0
+AllBelow zero P = Unit {0}
+AllBelow (suc n) P = AllBelow n P × P n
+
+pub below : (n : ℕ) (P : ℕ → Type 0) → AllBelow n P → (k : ℕ) → k < n → P k
+below zero P a k h = absurd (omega arith)
+below (suc n) P a k h = ⊎-elim (λ i. below n P (a .0) k i) (λ i. let e : n ≡ k = omega arith in subst P e (a .1)) (lt-or-le k n)
 
 -- (b − a)·(d − c) is not negative
 pub cross : {a b c d : ℕ} → a ≤ b → c ≤ d → a * d + b * c ≤ a * c + b * d

@@ -10,9 +10,10 @@ pub const VERSION_MOST: u16 = 2;
 // The greatest radius.
 pub const RADIUS_MOST: u16 = 255;
 
-// How many players there are, and the last of them; the first is 0.
+// How many players there are.
 pub const PLAYERS: usize = 8;
 
+// The last of them; the first is 0.
 pub const PLAYER_MOST: u8 = 7;
 
 pub struct Line {
