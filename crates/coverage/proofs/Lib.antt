@@ -3,6 +3,7 @@ pub mod Slant
 pub mod Bounds
 pub mod Closed
 pub mod Column
+pub mod Touched
 pub mod Framing
 pub mod Pixel
 pub mod Height

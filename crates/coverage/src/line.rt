@@ -118,12 +118,12 @@ pub fn crossing_at(l: u64, s: u64, i: u64) -> Crossing
     }
 }
 
-// The first of the columns from one to before another whose row is q or above, or that other. Rows only rise.
-pub fn column_reaching(l: u64, s: u64, q: u64, from: u64, end: u64) -> u64
-    requires { ⌜ (0 < l) × (l ≤ offsetMost) × (s ≤ l) × (q ≤ 2 * rowOrigin) × (from ≤ end) × (end ≤ l) ⌝ }
-    ensures { λ i. ⌜ Reaching l s q from end i ⌝ }
+// The first of the columns from one to before another at which the band's upper edge, l + 2·s·i, has come to a rise, or that other. The
+// edge only rises.
+pub fn column_reaching(l: u64, s: u64, rise: u64, from: u64, end: u64) -> u64
+    requires { ⌜ (l ≤ offsetMost) × (s ≤ l) × (from ≤ end) × (end ≤ l) ⌝ }
+    ensures { λ i. ⌜ Reaching l s rise from end i ⌝ }
 {
-    let rise = numbers::product(2 * l, q);
     if rise <= l + numbers::product(2 * s, from) {
         return from;
     }

@@ -2,3 +2,4 @@
 pub mod Refusals
 pub mod Touches
 pub mod OfKind
+pub mod Column

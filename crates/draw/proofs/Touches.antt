@@ -1,5 +1,5 @@
 -- A page painted with the drawn coverage is the page that the touched pixels make.
-use mathlib.Core.Bool.{Bool, true, false, cond, _&&_}
+use mathlib.Core.Bool.{Bool, true, false, true≢false, cond, _&&_}
 use mathlib.Core.Path.{_≡_, refl, sym, _∙_}
 use mathlib.Core.List.{List}
 use mathlib.Core.Logic.{_↔_, ⊎-elim}
@@ -60,6 +60,14 @@ module _ (w h : ℕ) (c : Clip) (v : ℕ) (s : Shape) (lawful : shapeRefusal s �
       go : (k : Bool) → touch (cond k n 0) ≡ cond (k && ltb 0 n) 1 0
       go true = one
       go false = refl
+
+  -- a pixel is touched where the coverage in view is above 0
+  pub touched-view : (x y : ℕ) → (touched c s x y ≡ true) ↔ (0 < inView (viewOf w h c) (shapeOn s) x y)
+  touched-view x y = go (touched c s x y) (count x y)
+    where
+      go : (t : Bool) → touch (inView (viewOf w h c) (shapeOn s) x y) ≡ cond t 1 0 → (t ≡ true) ↔ (0 < inView (viewOf w h c) (shapeOn s) x y)
+      go true e = (λ _. omega (arith, e), λ _. refl)
+      go false e = (λ z. absurd (true≢false (sym z)), λ k. absurd (omega (arith, e)))
 
   pub page-touched : (l : List ℕ) → painted w (inkOf v (drawnD s)) (inView (viewOf w h c) (shapeOn s)) l ≡ pageAfter w c v s l
   unfolding painted pageAfter

@@ -1,5 +1,6 @@
 // One shape on a lent page.
 use coverage::line::frame_of;
+use lines::columns::columns_of;
 use page::View;
 use shapes::Clip;
 use shapes::Disc;
@@ -13,12 +14,20 @@ ghost use Rattle.coverage.specs.Coverage.{drawnD};
 ghost use Rattle.page.specs.inner.Ink.{inkOf};
 ghost use Rattle.page.specs.inner.Paint.{Lawful, DrawnIn};
 ghost use Rattle.draw.specs.Draw.{drawRefusal, shapeOutcome, shapePage};
+ghost use Rattle.draw.specs.Column.{columnReach};
 ghost use Rattle.coverage.specs.inner.OnPage.{shapeOn};
 ghost use Rattle.draw.specs.inner.View.{viewOf};
 
 // How many pixels a shape touched, or the number of the refusal.
 pub enum Outcome {
     Touched(u64),
+    Refused(u8),
+}
+
+// The last column of a line in which it touches a pixel, or that there is none; or the number of the refusal.
+pub enum Reach {
+    Last(u64),
+    Nothing,
     Refused(u8),
 }
 
@@ -116,4 +125,22 @@ pub fn draw_shape(page: &mut [u8], w: u16, h: u16, clip: Clip, level: u8, shape:
         Shape::Disc(disc) => draw_disc(page, w, h, clip, level, disc),
         Shape::Ring(ring) => draw_ring(page, w, h, clip, level, ring),
     }
+}
+
+// The last column of a line, counted from its first end, in which it touches a pixel inside a clip on a page of w by h. No page is lent, so
+// that none is too short.
+pub fn last_column(w: u16, h: u16, clip: Clip, line: Line) -> Reach
+    ensures { λ r. ⌜ r ≡ columnReach w h clip line ⌝ }
+{
+    let own = shapes::line_refusal(line);
+    let refusal = draw_refusal(w, h, (w as usize) * (h as usize), clip, own);
+    if 0 < refusal {
+        return Reach::Refused(refusal);
+    }
+    let f = frame_of(line);
+    let span = columns_of(view_of(w, h, clip), line, f);
+    if span.end <= span.from {
+        return Reach::Nothing;
+    }
+    Reach::Last((span.end as u64) + (numbers::ORIGIN - 1) - f.x)
 }

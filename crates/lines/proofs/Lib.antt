@@ -4,6 +4,7 @@ pub mod RowPixel
 pub mod Column
 pub mod Dots
 pub mod Advance
-pub mod Columns
+pub mod Fits
+pub mod Touching
 pub mod Steps
 pub mod Walk

@@ -27,11 +27,11 @@ pub record Pixel (c : View) (f : Frame) (lay : Layout) (p g x y : ℕ) : Type 0 
   pub along-is : alongOf f x y ≡ p
   pub row-is : rowOn f x y ≡ g
   pub byte-is : byteAt f lay p g ≡ y * c .w + x + lay .origin
-  pub in-strip : (n : ℕ → ℕ → ℕ) → strip c f p (p + 1) n x y ≡ n x y
+  pub kept : InStrip c f p (p + 1) x y
   pub alone : (n : ℕ → ℕ → ℕ) (x′ y′ : ℕ) → rowOn f x′ y′ ≡ g → ((x′ ≡ x) × (y′ ≡ y) → ⊥) → strip c f p (p + 1) n x′ y′ ≡ 0
 
 -- the page's pixel across a column at row g of a frame with its first end at offset y
-abbrev acrossAt : Bool → ℕ → ℕ → ℕ
+abbrev pub acrossAt : Bool → ℕ → ℕ → ℕ
 acrossAt falls y g = cond falls (y + (rowOrigin - origin - 1) - g) (g + y - (rowOrigin + origin))
 
 -- b is that pixel, within r0 to r1
@@ -94,13 +94,13 @@ module _ (c : View) (f : Frame) (lay : Layout) (size : ℕ) (w : Lawful c size) 
       by false = (w .y-order, omega (arith, w .y-most, w .h-most))
 
   -- the pixel of column p and row g
-  abbrev pixelX : ℕ → ℕ → ℕ
+  abbrev pub pixelX : ℕ → ℕ → ℕ
   pixelX p g = cond (f .steep) (acrossAt (f .falls) (f .y) g) p
 
-  abbrev pixelY : ℕ → ℕ → ℕ
+  abbrev pub pixelY : ℕ → ℕ → ℕ
   pixelY p g = cond (f .steep) p (acrossAt (f .falls) (f .y) g)
 
-  pixel : (p g : ℕ) → alongFrom c f ≤ p → p < alongEnd c f → shown lay g ≡ true → Pixel c f lay p g (pixelX p g) (pixelY p g)
+  pub pixel : (p g : ℕ) → alongFrom c f ≤ p → p < alongEnd c f → shown lay g ≡ true → Pixel c f lay p g (pixelX p g) (pixelY p g)
   pixel p g h k e =
       let both = both-true (leb (lay .low) g) (ltb g (lay .high)) e in
       let o = across-order in
@@ -117,17 +117,19 @@ module _ (c : View) (f : Frame) (lay : Layout) (size : ℕ) (w : Lawful c size) 
         along-is = t .0;
         row-is = rw (t .1) (a .row-is);
         byte-is = rw (d .along-is, d .across-is, d .origin-is, a .byte-is) (rw (d .along-is, d .across-is) (byte-of (f .steep) (c .w) p (acrossAt (f .falls) (f .y) g)));
-        in-strip = λ n. strip-in c f n p (p + 1) (pixelX p g) (pixelY p g) i;
+        kept = i;
         alone =
             λ n x y e ne.
             ⊎-elim (λ j. absurd (ne (same-pixel f (omega (arith, j .least, j .less)) (a .alone (acrossOf f x y) (j .high) e)))) (λ z. z) (in-or-none c f n p (p + 1) x y);
       }
 
+  -- a pixel under the clip has its row among those that are shown
+  pub row-kept : {p e x y : ℕ} → InStrip c f p e x y → (lay .low ≤ rowOn f x y) × (rowOn f x y < lay .high)
+  row-kept {x = x} {y = y} i =
+      row-shown (f .falls) (f .y) (acrossFrom c f) (acrossEnd c f) (lay .low) (lay .high) (acrossOf f x y) hy (across-order .1) (d .low-is) (d .high-is) (i .low) (i .high)
+
   hidden : (p e : ℕ) (n : ℕ → ℕ → ℕ) (x y : ℕ) → ((lay .low ≤ rowOn f x y) × (rowOn f x y < lay .high) → ⊥) → strip c f p e n x y ≡ 0
-  hidden p e n x y out =
-      ⊎-elim
-      (λ i. absurd (out (row-shown (f .falls) (f .y) (acrossFrom c f) (acrossEnd c f) (lay .low) (lay .high) (acrossOf f x y) hy (across-order .1) (d .low-is) (d .high-is) (i .low) (i .high))))
-      (λ z. z) (in-or-none c f n p e x y)
+  hidden p e n x y out = ⊎-elim (λ i. absurd (out (row-kept i))) (λ z. z) (in-or-none c f n p e x y)
 
 -- ---- one row of column p, drawn
 module _ (c : View) (f : Frame) (lay : Layout) (size p : ℕ) (w : Lawful c size) (d : Laid c f lay) (hy : f .y ≤ offsetMost)
@@ -160,7 +162,7 @@ module _ (c : View) (f : Frame) (lay : Layout) (size p : ℕ) (w : Lawful c size
           let q = pixel c f lay size w d hy p g from end e in
           let x : ℕ = cond (f .steep) (acrossAt (f .falls) (f .y) g) p in
           let y : ℕ = cond (f .steep) p (acrossAt (f .falls) (f .y) g) in
-          let here : only g x y ≡ m = ap (λ (t : Bool). cond t (column x y) 0) (eq-eqb (rowOn f x y) g (q .row-is)) ∙ q .in-strip n ∙ is x y q in
+          let here : only g x y ≡ m = ap (λ (t : Bool). cond t (column x y) 0) (eq-eqb (rowOn f x y) g (q .row-is)) ∙ strip-in c f n p (p + 1) x y (q .kept) ∙ is x y q in
           let place : k - lay .origin ≡ y * c .w + x = omega (arith, q .byte-is) in
           rw (place, ← here)
           (drawn-one (c .w) (c .h) ink x y (only g) l (q .x-less) (q .y-less) room

@@ -26,7 +26,7 @@ use Rattle.lines.specs.declared.step.Stroke.{Stroke}
 use Rattle.lines.proofs.RowPixel.{byte-on-page}
 use Rattle.lines.proofs.Column.{raised-byte, lowered-byte, column-drawn}
 use Rattle.lines.proofs.Advance.{advance, byte-least, byte-most}
-use Rattle.lines.proofs.Columns.{Covers, rows-cover, whole-fits, layout-le, along-most}
+use Rattle.lines.proofs.Fits.{Covers, rows-cover, whole-fits, layout-le, along-most}
 
 module _ {s : Stroke} {size : ℕ} {at : Step} (here : Steppable s at size) where
   abbrev f : Frame

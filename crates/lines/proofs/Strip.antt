@@ -1,26 +1,29 @@
 -- Laws of strips: the columns of a line's frame under a clip.
 use mathlib.Core.Bool.{Bool, true, false, cond}
-use mathlib.Core.Path.{_≡_, refl, sym, _∙_}
+use mathlib.Core.Path.{_≡_, refl, sym, subst, _∙_}
 use mathlib.Core.Logic.{_⊎_, inl, inr, ⊎-elim}
-use Prim.Native.Nat.{ℕ, _+_, _-_, _≤_, _<_, max, min}
+use Prim.Native.Nat.{ℕ, _+_, _-_, _≤_, _<_}
 use native.Mathlib.Omega.{arith}
 use lib.IntN.{pos, subℕ}
 use Rattle.numbers.specs.inner.Offset.{origin, offsetOf}
 use Rattle.numbers.proofs.Order.{lt-or-le}
+use Rattle.numbers.proofs.Integer.{Diff}
 use Rattle.numbers.proofs.Coordinate.{InRange, in-range, pixel-in, pixel-offset}
 use Rattle.shapes.specs.declared.Line.{Line}
 use Rattle.coverage.specs.Line.{rowOf, restOf}
+use Rattle.coverage.specs.Frame.{columnOf}
 use Rattle.shapes.specs.declared.Shape.the-variants.{Line as line}
 use Rattle.coverage.specs.inner.OnPage.{shapeOn}
 use Rattle.coverage.specs.inner.Rows.{rowsOf, atRow}
 use Rattle.coverage.specs.inner.Frame.{Framed, rowOrigin}
 use Rattle.coverage.specs.declared.line.Frame.{Frame}
 use Rattle.coverage.specs.declared.line.Rows.{Rows}
+use Rattle.coverage.proofs.Framing.{column-diff}
 use Rattle.coverage.proofs.Pixel.{drawn-left, drawn-right, drawn-inside}
 use Rattle.page.specs.inner.Paint.{clipped, inView}
 use Rattle.page.specs.declared.View.{View}
 use Rattle.page.proofs.Clip.{in-or-out, clip-in, clip-out, clip-columns, clip-rows, Join}
-use Rattle.lines.specs.inner.Layout.{alongOf, acrossOf, alongFrom, alongEnd, acrossFrom, acrossEnd, Columns, strip, rowOn}
+use Rattle.lines.specs.inner.Layout.{alongOf, acrossOf, alongFrom, alongEnd, acrossFrom, acrossEnd, strip, rowOn}
 
 -- a pixel in the columns p to e, under the clip
 pub record InStrip (c : View) (f : Frame) (p e x y : ℕ) : Type 0 where
@@ -82,6 +85,15 @@ module _ (c : View) (f : Frame) (n : ℕ → ℕ → ℕ) where
       by true = refl
       by false = refl
 
+  -- so that a pixel in any strip of it is in the clip
+  pub in-view : (p e x y : ℕ) → alongFrom c f ≤ p → e ≤ alongEnd c f → InStrip c f p e x y → inView c n x y ≡ n x y
+  in-view p e x y h k i =
+      sym (strip-view x y) ∙ strip-in _ _ x y (record { least = omega (arith, i .least); less = omega (arith, i .less); low = i .low; high = i .high })
+
+  -- and a coverage that is 0 under the clip is 0 in view
+  pub view-none : ((x y : ℕ) → InStrip c f (alongFrom c f) (alongEnd c f) x y → n x y ≡ 0) → (x y : ℕ) → inView c n x y ≡ 0
+  view-none zero x y = sym (strip-view x y) ∙ ⊎-elim (λ i. strip-in _ _ x y i ∙ zero x y i) (λ z. z) (in-or-none (alongFrom c f) (alongEnd c f) x y)
+
   -- and so of those outside which the coverage is 0
   pub strip-whole : (p e : ℕ) → alongFrom c f ≤ p → e ≤ alongEnd c f
       → ((x y : ℕ) → InStrip c f (alongFrom c f) (alongEnd c f) x y → (alongOf f x y < p) ⊎ (e ≤ alongOf f x y) → n x y ≡ 0)
@@ -123,6 +135,10 @@ module _ {n : Line} {f : Frame} (g : Framed n f) (x y : ℕ) (hx : x ≤ 4095) (
   across-offset : cond (f .steep) (offsetOf (pos x)) (offsetOf (pos y)) ≡ acrossOf f x y + origin
   across-offset = either-offset (f .steep) hx hy
 
+  -- its column is counted from the first end
+  pub column-along : Diff (columnOf n (pos x) (pos y)) (a + origin) (f .x)
+  column-along = subst (λ (k : ℕ). Diff (columnOf n (pos x) (pos y)) k (f .x)) along-offset (column-diff g px py)
+
   -- 0 left and right of its columns
   pub line-left : a + origin < f .x → shapeOn (line n) x y ≡ 0
   line-left h = sym (drawn-left g px py (rw along-offset h))
@@ -141,21 +157,3 @@ module _ {n : Line} {f : Frame} (g : Framed n f) (x y : ℕ) (hx : x ≤ 4095) (
       → shapeOn (line n) x y
       ≡ atRow rows (subℕ (rowOn f x y) (rowOrigin + rowOf (f .l) (f .s) i))
   line-inside h k = sym (rw (along-offset, across-offset) at (drawn-inside g px py (rw along-offset h) (rw along-offset k)))
-
--- ---- a line lies in its own columns
-
--- a pixel of the clip that is left of the first common column, or from the last on, is off the line
-pub common-columns : (c : View) (f : Frame) → c .x1 ≤ 1024 → c .y1 ≤ 1024 → (from end : ℕ)
-    → from ≡ max (alongFrom c f) (f .x - origin)
-    → end ≡ min (alongEnd c f) (f .x + f .l - origin)
-    → (n : Line) → Framed n f → Columns c n f from end
-common-columns c f wide tall from end ef ee n g =
-    record {
-      between = λ h. record { some = h; left = omega arith; first = omega arith; end = record { right = omega arith; last = omega arith } };
-      whole = strip-whole c f (shapeOn (line n)) from end (omega arith) (omega arith) none;
-    }
-  where
-    none : (x y : ℕ) → InStrip c f (alongFrom c f) (alongEnd c f) x y → (alongOf f x y < from) ⊎ (end ≤ alongOf f x y) → shapeOn (line n) x y ≡ 0
-    none x y i o =
-        let s = strip-small i (omega arith) in
-        ⊎-elim (λ h. line-left g x y (omega arith) (omega arith) (omega (arith, i .least))) (λ h. line-right g x y (omega arith) (omega arith) (omega (arith, i .less))) o

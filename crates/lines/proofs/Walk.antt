@@ -16,7 +16,7 @@ use Rattle.lines.specs.declared.step.Step.{Step}
 use Rattle.lines.specs.declared.step.Stroke.{Stroke}
 use Rattle.lines.proofs.Strip.{strip-join, strip-none}
 use Rattle.lines.proofs.Advance.{row-rises}
-use Rattle.lines.proofs.Columns.{layout-le, along-most}
+use Rattle.lines.proofs.Fits.{layout-le, along-most}
 
 abbrev columns : Stroke → ℕ → ℕ → ℕ → ℕ → ℕ
 columns s p e = strip (s .view) (s .frame) p e (shapeOn (line (s .line)))

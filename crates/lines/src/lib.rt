@@ -1,29 +1,20 @@
 // Lines on a lent page, column by column along the longer span.
+pub mod columns;
 pub mod layout;
 pub mod step;
 
 use coverage::line::Frame;
-use layout::Layout;
 use page::View;
 use step::Stroke;
-ghost use Prim.Native.Nat.{_+_, _≤_};
 ghost use lib.ListN.{length};
-ghost use Rattle.numbers.specs.inner.Offset.{offsetMost};
 ghost use Rattle.shapes.specs.declared.Shape.the-variants.{Line as asShape};
-ghost use Rattle.shapes.specs.declared.Line.{Line};
 ghost use Rattle.coverage.specs.Coverage.{drawnD};
 ghost use Rattle.coverage.specs.inner.Frame.{Framed};
 ghost use Rattle.coverage.specs.inner.OnPage.{shapeOn};
 ghost use Rattle.page.specs.inner.Ink.{inkOf};
 ghost use Rattle.page.specs.inner.Paint.{inView, Lawful, Drawn};
-ghost use Rattle.lines.specs.inner.Layout.{Between, Columns, strip};
-ghost use Rattle.lines.specs.inner.Stroke.{Drawable, ColumnsDrawn, Inside, PartFits, InsidePart};
-
-// The columns of the page, or its rows, from one to before another.
-pub struct Span {
-    pub from: usize,
-    pub end: usize,
-}
+ghost use Rattle.lines.specs.inner.Layout.{Between, strip};
+ghost use Rattle.lines.specs.inner.Stroke.{Drawable, ColumnsDrawn, Inside};
 
 // Draws columns from to end of a stroke, if any, under the clip; hands back how many pixels they touched.
 fn draw_clipped(page: &mut [u8], s: Stroke, from: usize, end: usize) -> u64
@@ -55,23 +46,6 @@ fn draw_inside(page: &mut [u8], s: Stroke, from: usize, end: usize) -> u64
     at.touched
 }
 
-// The columns among those from one to end that lie inside the clip with all their rows: rows only rise.
-fn inside_of(lay: Layout, f: Frame, from: usize, end: usize) -> Span
-    requires { ⌜ PartFits lay f from end ⌝ }
-    ensures { λ r. ⌜ InsidePart f lay from end (r .from) (r .end) ⌝ }
-{
-    let i = (from as u64) + numbers::ORIGIN - f.x;
-    let j = (end as u64) + numbers::ORIGIN - f.x;
-    let above = numbers::less((lay.low as u64) + 1, coverage::line::ROW_ORIGIN);
-    let below = numbers::less(lay.high as u64, coverage::line::ROW_ORIGIN + 1);
-    let a = coverage::line::column_reaching(f.l, f.s, above, i, j);
-    let b = coverage::line::column_reaching(f.l, f.s, below, a, j);
-    Span {
-        from: (a + f.x - numbers::ORIGIN) as usize,
-        end: (b + f.x - numbers::ORIGIN) as usize,
-    }
-}
-
 // Draws columns from to end of a line; hands back how many pixels they touched.
 pub(crate) fn draw_columns(
     page: &mut [u8],
@@ -97,24 +71,11 @@ pub(crate) fn draw_columns(
         d,
         m: page::reciprocal(d),
     };
-    let inside = inside_of(lay, f, from, end);
+    let inside = columns::inside_of(lay, f, from, end);
     let lower = draw_clipped(page, s, from, inside.from);
     let inner = draw_inside(page, s, inside.from, inside.end);
     let upper = draw_clipped(page, s, inside.end, end);
     lower + inner + upper
-}
-
-// Columns of a line outside of which it has no coverage in the clip.
-fn columns_of(view: View, f: Frame) -> Span
-    requires { ⌜ (view .x1 ≤ 1024) × (view .y1 ≤ 1024) × (f .x + f .l ≤ offsetMost) ⌝ }
-    ensures { λ r. ⌜ ((n : Line) → Framed n f → Columns view n f (r .from) (r .end)) ⌝ }
-{
-    let first = layout::either(f.steep, view.y0, view.x0);
-    let last = layout::either(f.steep, view.y1, view.x1);
-    Span {
-        from: numbers::greater(first as u64, numbers::less(f.x, numbers::ORIGIN)) as usize,
-        end: numbers::lesser(last as u64, numbers::less(f.x + f.l, numbers::ORIGIN)) as usize,
-    }
 }
 
 // Draws a line, whose frame is worked out already, within the clip; hands back how many pixels it touched.
@@ -123,7 +84,7 @@ pub fn draw_line(page: &mut [u8], view: View, line: shapes::Line, f: Frame, leve
     ensures { λ t. ⌜ Drawn (view .w) (view .h) (inkOf level (drawnD (asShape line)))
         (inView view (shapeOn (asShape line))) (now (page .entry)) (now (page .exit)) t ⌝ }
 {
-    let span = columns_of(view, f);
+    let span = columns::columns_of(view, line, f);
     if span.end <= span.from {
         return 0;
     }

@@ -1,11 +1,13 @@
 -- Laws of sums over a range, and over a list.
 use mathlib.Core.Path.{_≡_, refl, ap, ap₂, _∙_}
 use mathlib.Core.List.{List, [], _∷_, _++_}
+use mathlib.Core.Logic.{⊎-elim}
 use Prim.Native.Nat.{ℕ, zero, suc, _+_, _-_, _*_, _≤_, _<_}
 use native.Mathlib.Nat.{add-zero, zero-add, add-suc, suc-mul}
 use native.Mathlib.Numerals.{add-one}
 use native.Mathlib.Omega.{arith}
 use Rattle.numbers.specs.Sum.{sumTo, total}
+use Rattle.numbers.proofs.Order.{lt-or-le}
 
 pub sum-none : (f : ℕ → ℕ) → sumTo 0 f ≡ 0
 unfolding sumTo
@@ -24,6 +26,12 @@ pub sum-zero : (n : ℕ) (f : ℕ → ℕ) → ((k : ℕ) → k < n → f k ≡ 
 unfolding sumTo
 sum-zero zero f h = refl
 sum-zero (suc n) f h = omega (arith, sum-zero n f (λ k b. h k (omega arith)), h n (omega arith))
+
+-- a term that is not 0
+pub sum-some : (n a : ℕ) (f : ℕ → ℕ) → a < n → 0 < f a → 0 < sumTo n f
+unfolding sumTo
+sum-some zero a f b h = absurd (omega arith)
+sum-some (suc n) a f b h = ⊎-elim (λ k. omega (arith, sum-some n a f k h)) (λ k. let e : a ≡ n = omega arith in let z = rw e at h in omega arith) (lt-or-le a n)
 
 pub sum-add : (n : ℕ) (f g : ℕ → ℕ) → sumTo n (λ k. f k + g k) ≡ sumTo n f + sumTo n g
 unfolding sumTo

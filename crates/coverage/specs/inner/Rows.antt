@@ -3,7 +3,7 @@
 use mathlib.Core.Bool.{Bool, true, false, cond}
 use Prim.Native.Nat.{ℕ, zero, suc, _+_, _*_, _-_, _≤_, _<_}
 use lib.IntN.{ℤ, pos, negsuc}
-use Rattle.coverage.specs.Line.{rowOf, exactRow, exactWhole, approxRow, approxWhole}
+use Rattle.coverage.specs.Line.{exactRow, exactWhole, approxRow, approxWhole}
 use Rattle.coverage.specs.declared.line.Rows.{Rows}
 
 -- one of the two rules, and what its rows add up to
@@ -46,9 +46,13 @@ atRow c (pos (suc (suc k))) = 0
 atRow c (negsuc zero) = c .lower
 atRow c (negsuc (suc k)) = 0
 
--- i is the first of the columns a to e whose row is q or above, or e
-pub record Reaching (l s q a e i : ℕ) : Type 0 where
+-- l + 2·s·i: how high the band's upper edge lies over the floor of row 0 at the left side of column i, 2·l to a row
+abbrev pub edgeAt : ℕ → ℕ → ℕ → ℕ
+edgeAt l s i = l + 2 * s * i
+
+-- i is the first of the columns a to e at which that edge has come to a rise, or e
+pub record Reaching (l s rise a e i : ℕ) : Type 0 where
   pub least : a ≤ i
   pub most : i ≤ e
-  pub reached : i < e → q ≤ rowOf l s i
-  pub below : a < i → rowOf l s (i - 1) < q
+  pub reached : i < e → rise ≤ edgeAt l s i
+  pub below : a < i → edgeAt l s (i - 1) < rise

@@ -4,7 +4,7 @@ use native.Mathlib.Omega.{arith}
 use lib.ListN.{length}
 use Rattle.coverage.proofs.Pixel.{whole-drawn}
 use Rattle.lines.specs.inner.Stroke.{Prepared}
-use Rattle.lines.proofs.Columns.{whole-fits, edges-small}
+use Rattle.lines.proofs.Fits.{whole-fits, rows-fit}
 use Rattle.lines.proofs.Walk.{drawable, three-parts}
 use borrow.Author.Needs.{needs}
 use Rattle.lines.proofs.draw_columns.Statement.{statement}
@@ -22,18 +22,10 @@ inside-of-requires c κs =
     let s = laid .before .before in
     let a = s .args in
     let f = s .pre .1 in
-    let b = s .pre .2 in
-    let o = edges-small (a .view) (a .f) (laid .layout-of .result) (length (a .page .now)) (s .pre .0) (laid .layout-of .ensures) (f .high) in
-    record {
-      first = b .first;
-      order = omega (arith, b .some);
-      last = b .end .last;
-      long = f .long;
-      short = f .short;
-      right = f .right;
-      low = o .0;
-      high = o .1;
-    }
+    let b = s .pre .2 in (
+      record { first = b .first; order = omega (arith, b .some); last = b .end .last; long = f .long; short = f .short; right = f .right },
+      rows-fit (a .view) (a .f) (laid .layout-of .result) (length (a .page .now)) (s .pre .0) (laid .layout-of .ensures) (f .high),
+    )
 
 -- the stroke
 module _ (c : tie.After-inside-of) where

@@ -1,33 +1,26 @@
 -- The clipped line is its strip in the columns of `columns_of`, which has nothing where they are none.
 use mathlib.Core.Path.{sym, _∙_}
 use Rattle.page.proofs.Drawn.{drawn-none, drawn-ext}
-use Rattle.lines.specs.inner.Layout.{Columns}
 use Rattle.lines.proofs.Strip.{strip-none}
 use borrow.Author.Needs.{needs}
 use Rattle.lines.proofs.draw_line.Statement.{statement}
 use Rattle.lines.proofs.draw_line.Tie as tie
 
--- what `columns_of` promises of this line
-columns : (c : tie.After-columns-of)
-    → let a = c .before .before .args in
-    Columns (a .view) (a .line) (a .f) (c .columns-of .result .from) (c .columns-of .result .end)
-columns c = let s = c .before .before in c .columns-of .ensures (s .args .line) (s .pre .1)
-
 returns : tie.Need-returns
 returns c =
-    let k = c .before .before in
-    drawn-none _ _ _ _ _ (λ x y. sym (columns k .whole x y) ∙ strip-none _ _ _ _ _ (c .if1 .taken) x y)
+    let k = c .before .before .columns-of .ensures in
+    drawn-none _ _ _ _ _ (λ x y. sym (k .whole x y) ∙ strip-none _ _ _ _ _ (c .if1 .taken) x y)
 
 draw-columns-requires : tie.Need-draw-columns-requires
 draw-columns-requires c κs =
     let k = c .before .before .before in
     let s = k .before .before in
-    (s .pre .0, s .pre .1, columns k .between (c .before .if1 .left))
+    (s .pre .0, s .pre .1, k .columns-of .ensures .between (c .before .if1 .left))
 
 returns-2 : tie.Need-returns-2
 returns-2 c =
     let d = c .before .before in
-    drawn-ext _ (columns (d .before .before .before .before) .whole) (d .draw-columns .ensures)
+    drawn-ext _ (d .before .before .before .before .columns-of .ensures .whole) (d .draw-columns .ensures)
 
 pub draw-line-spec : {M : Type 1} → statement M
 draw-line-spec = tie.close (tie.spec (λ c. search needs) returns draw-columns-requires (λ c. search needs) returns-2)

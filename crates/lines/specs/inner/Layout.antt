@@ -6,13 +6,10 @@ use Prim.Native.Nat.{ℕ, _+_, _*_, _-_, _^_, _≤_, _<_}
 use lib.Dec.{leb, ltb}
 use lib.ListN.{getD, set}
 use Rattle.numbers.specs.inner.Offset.{origin}
-use Rattle.shapes.specs.declared.Line.{Line}
-use Rattle.shapes.specs.declared.Shape.the-variants.{Line as line}
-use Rattle.coverage.specs.inner.OnPage.{shapeOn}
 use Rattle.coverage.specs.inner.Frame.{rowOrigin, rowAt}
 use Rattle.coverage.specs.declared.line.Frame.{Frame}
 use Rattle.coverage.specs.declared.line.Rows.{Rows}
-use Rattle.page.specs.inner.Paint.{dot, touch, clipped, inView}
+use Rattle.page.specs.inner.Paint.{dot, touch, clipped}
 use Rattle.page.specs.declared.View.{View}
 use Rattle.lines.specs.declared.layout.Layout.{Layout}
 
@@ -51,11 +48,6 @@ pub record Between (c : View) (f : Frame) (p e : ℕ) : Type 0 where
 -- a coverage under the clip, in the frame's columns p to e alone
 unfoldable pub strip : View → Frame → ℕ → ℕ → (ℕ → ℕ → ℕ) → ℕ → ℕ → ℕ
 strip c f p e n = cond (f .steep) (clipped (c .x0) p (c .x1) e n) (clipped p (c .y0) e (c .y1) n)
-
--- columns from p to e outside of which a line has no coverage in the clip
-pub record Columns (c : View) (n : Line) (f : Frame) (p e : ℕ) : Type 0 where
-  pub between : p < e → Between c f p e
-  pub whole : (x y : ℕ) → strip c f p e (shapeOn (line n)) x y ≡ inView c (shapeOn (line n)) x y
 
 -- the frame's row of a pixel
 abbrev pub rowOn : Frame → ℕ → ℕ → ℕ

@@ -117,21 +117,3 @@ rowIn f p = rowOrigin + rowOf (f .l) (f .s) (p + origin - f .x)
 pub record Inside (f : Frame) (lay : Layout) (p e : ℕ) : Type 0 where
   pub above-low : p < e → lay .low < rowIn f p
   pub below-high : p < e → rowIn f (e - 1) + 1 < lay .high
-
--- columns p to e are a line's, and no number is too great
-pub record PartFits (lay : Layout) (f : Frame) (p e : ℕ) : Type 0 where
-  pub first : f .x ≤ p + origin
-  pub order : p ≤ e
-  pub last : e + origin ≤ f .x + f .l
-  pub long : 0 < f .l
-  pub short : f .s ≤ f .l
-  pub right : f .x + f .l ≤ offsetMost
-  pub low : lay .low < 2 * rowOrigin
-  pub high : lay .high ≤ 2 * rowOrigin
-
--- columns a to b are among columns p to e, and inside
-pub record InsidePart (f : Frame) (lay : Layout) (p e a b : ℕ) : Type 0 where
-  pub least : p ≤ a
-  pub order : a ≤ b
-  pub most : b ≤ e
-  pub inside : Inside f lay a b

@@ -1,4 +1,4 @@
--- Columns drawn one after the other.
+-- Bounds of what a walk works with: the rows of a column, the layout of a page, the rows of its clip.
 use mathlib.Core.Bool.{Bool, true, false, cond}
 use Prim.Native.Nat.{ℕ, zero, suc, _*_, _^_, _≤_, _<_}
 use native.Mathlib.Nat.{mul-le-mul}
@@ -16,6 +16,7 @@ use Rattle.page.specs.inner.Ink.{Coverage}
 use Rattle.page.specs.inner.Paint.{Lawful}
 use Rattle.page.specs.declared.View.{View}
 use Rattle.lines.specs.inner.Layout.{alongEnd, edgeBy, Laid}
+use Rattle.lines.specs.inner.Columns.{RowsFit}
 use Rattle.lines.specs.declared.layout.Layout.{Layout}
 
 -- ---- the rows of a column are coverages
@@ -40,7 +41,7 @@ rows-cover {t} {d} {c} e w = record { upper = cover (c .upper) (omega (arith, e 
     cover : (n : ℕ) → n ≤ d → Coverage n d
     cover n h = record { some = w .0; part = h; most = w .1 }
 
--- ---- what the first column has
+-- ---- the layout is small
 pub layout-le : (c : View) (f : Frame) (lay : Layout) (size : ℕ) → Lawful c size → Laid c f lay → (lay .along ≤ 1024) × (lay .across ≤ 1024)
 layout-le c f lay size w d =
     (rw (d .along-is) (cond-le (f .steep) (w .w-most) (omega arith)), rw (d .across-is) (cond-le (f .steep) (omega arith) (w .w-most)))
@@ -51,8 +52,8 @@ along-most c f size p w h =
     omega arith
 
 -- ---- the clip's rows are few, and the row origin is far above them
-pub edges-small : (c : View) (f : Frame) (lay : Layout) (size : ℕ) → Lawful c size → Laid c f lay → f .y ≤ offsetMost → (lay .low < 2 * rowOrigin) × (lay .high ≤ 2 * rowOrigin)
-edges-small c f lay size w d hy = rw (d .low-is, d .high-is) (go (f .falls) (f .steep))
+pub rows-fit : (c : View) (f : Frame) (lay : Layout) (size : ℕ) → Lawful c size → Laid c f lay → f .y ≤ offsetMost → RowsFit lay
+rows-fit c f lay size w d hy = let o = go (f .falls) (f .steep) in record { low = rw (d .low-is) (o .0); high = rw (d .high-is) (o .1) }
   where
     go : (t u : Bool) → (edgeBy t (f .y) (cond u (c .x1) (c .y1)) (cond u (c .x0) (c .y0)) < 2 * rowOrigin)
         × (edgeBy t (f .y) (cond u (c .x0) (c .y0)) (cond u (c .x1) (c .y1)) ≤ 2 * rowOrigin)

@@ -1,0 +1,8 @@
+-- Each arm has the numbers of its answer.
+use borrow.Author.Needs.{needs}
+use Rattle.greystroke.proofs.column.column_answer.Statement.{statement}
+use Rattle.greystroke.proofs.column.column_answer.Tie as tie
+
+pub column-answer-spec : {M : Type 1} → statement M
+column-answer-spec =
+    tie.close (tie.spec (λ c. search needs) (λ c. search needs) (λ c. search needs) (λ c. search needs) (λ c. cc) (λ c. cc) (λ c. cc))
