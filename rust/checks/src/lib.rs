@@ -11,6 +11,7 @@ pub mod listings;
 pub mod notation;
 pub mod pictures;
 pub mod random;
+pub mod reference_page;
 pub mod reference_writer;
 pub mod rows;
 pub mod strokes;
