@@ -310,7 +310,7 @@ fn stored_rows_agree() {
         let found = answer(&format!("draws {}", row.call));
         assert_eq!(found, row.answer, "{}", row.call);
     }
-    assert_eq!(rows.len(), 180);
+    assert_eq!(rows.len(), 267);
 }
 
 /// The answer and the page after one shape on a page of one level, under a whole clip.

@@ -32,7 +32,7 @@ fn every_row_of_every_table() {
             count += 1;
         }
     }
-    assert_eq!(count, 291 + 180 + 215 + 194 + 190);
+    assert_eq!(count, 334 + 267 + 245 + 250 + 234);
 }
 
 #[test]
