@@ -6,6 +6,7 @@ pub mod calls;
 pub mod cases;
 pub mod classes;
 pub mod drawings;
+pub mod flung;
 pub mod library;
 pub mod listings;
 pub mod notation;

@@ -7,11 +7,12 @@ use checks::rows as answers;
 use reference::exact::{bound, byte_after, exact_blend, touches_at, within};
 use reference::list::{check, draw_list, Accepted};
 use reference::shape::PLAYERS;
-use reference::{coverage, page, print, reader};
+use reference::{column, coverage, page, print, reader};
 
 fn answer(table: &str, call: &str) -> String {
     match table {
         "queries" => answers::queries(call, coverage::query),
+        "columns" => answers::columns(call, column::last_column),
         "draws" => answers::draws(call, draw_shape),
         "writes" => answers::writes(call, write),
         "reads" => answers::reads(call, reader::read_record),
@@ -32,7 +33,7 @@ fn every_row_of_every_table() {
             count += 1;
         }
     }
-    assert_eq!(count, 334 + 267 + 245 + 250 + 234);
+    assert_eq!(count, 334 + 90 + 267 + 245 + 250 + 234);
 }
 
 #[test]
