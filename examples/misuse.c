@@ -1,5 +1,5 @@
 /* Misuses every call: numbers out of their ranges and far out of 16 bits, versions that there are
- * not, kinds that are no shape or that a version does not have, no memory at all, lists cut at each
+ * not, kinds that are no shape, no line or not of a version, no memory at all, lists cut at each
  * byte, places past the list. Each answer must tell the refusal and its place, and what was lent
  * must be as it was. */
 #include "greystroke.h"
@@ -13,6 +13,7 @@ enum { SIDE = 8, LEVEL = 200, PLAYER = 5, PLAYERS = 8, BYTE = 170, ROOM = 80, LI
 #define COUNT(array) (sizeof(array) / sizeof *(array))
 
 static const struct greystroke_clip whole = {0, 0, SIDE, SIDE};
+static const struct greystroke_clip no_clip = {5, 0, 4, SIDE};
 static const struct greystroke_basis none = {0, 0, 0};
 static const struct greystroke_basis basis_1 = {1, SIDE, SIDE};
 static const struct greystroke_basis basis_2 = {2, SIDE, SIDE};
@@ -65,10 +66,17 @@ static bool same(struct greystroke_basis one, struct greystroke_basis other) {
 
 /* ---- shapes ---- */
 
-/* A shape in each call that takes one. */
+static bool is_line(struct greystroke_shape shape) {
+    return shape.kind == GREYSTROKE_KIND_EXACT_LINE
+        || shape.kind == GREYSTROKE_KIND_APPROXIMATE_LINE;
+}
+
+/* A shape in each call that takes one. One that is no line has no last column. */
 static void try_shape(uint32_t number, struct greystroke_shape shape) {
     REFUSED(draw, number, 0,
         greystroke_draw_shape(page, sizeof page, SIDE, SIDE, whole, LEVEL, shape));
+    REFUSED(column, is_line(shape) ? number : GREYSTROKE_UNKNOWN_KIND, 0,
+        greystroke_last_column(SIDE, SIDE, whole, shape));
     REFUSED(coverage, number, 0, greystroke_coverage(shape, 0, 0));
     WRITE_REFUSED(number, 10, basis_1,
         greystroke_write_shape(room, sizeof room, 10, basis_1, shape));
@@ -96,6 +104,7 @@ static void try_shapes(void) {
         /* before all other refusals */
         REFUSED(draw, GREYSTROKE_UNKNOWN_KIND, 0,
             greystroke_draw_shape(NULL, 0, 0, 0, whole, LEVEL, shape));
+        REFUSED(column, GREYSTROKE_UNKNOWN_KIND, 0, greystroke_last_column(0, 0, no_clip, shape));
         REFUSED(coverage, GREYSTROKE_UNKNOWN_KIND, 0, greystroke_coverage(shape, INT32_MAX, 0));
         WRITE_REFUSED(GREYSTROKE_UNKNOWN_KIND, 0, none,
             greystroke_write_shape(NULL, 0, 0, none, shape));
@@ -127,12 +136,35 @@ static void try_pixels(void) {
         }
 }
 
+/* ---- last columns ---- */
+
+/* Each refusal before those that come later in the order: of the kind, of the size, of the clip, of
+ * the coordinates, of the ends. */
+static void try_columns(void) {
+    for (size_t s = 0; s < COUNT(lawful); s++) {
+        bool line = is_line(lawful[s]);
+        struct greystroke_shape shape = lawful[s];
+        for (size_t k = 0; k < COUNT(no_coordinate); k++) {
+            shape.numbers[0] = shape.numbers[2] = no_coordinate[k];
+            shape.numbers[1] = shape.numbers[3] = 0;
+            REFUSED(column, line ? GREYSTROKE_PAGE_SIZE : GREYSTROKE_UNKNOWN_KIND, 0,
+                greystroke_last_column(0, SIDE, no_clip, shape));
+            REFUSED(column, line ? GREYSTROKE_CLIP : GREYSTROKE_UNKNOWN_KIND, 0,
+                greystroke_last_column(SIDE, SIDE, no_clip, shape));
+            REFUSED(column, line ? GREYSTROKE_COORDINATE : GREYSTROKE_UNKNOWN_KIND, 0,
+                greystroke_last_column(SIDE, SIDE, whole, shape));
+        }
+        if (!line)
+            REFUSED(column, GREYSTROKE_UNKNOWN_KIND, 0,
+                greystroke_last_column(SIDE, SIDE, whole, lawful[s]));
+    }
+}
+
 /* ---- pages ---- */
 
 /* A version, W and H in each call that takes them, before anything else is looked at. */
 static void try_basis(uint32_t number, struct greystroke_basis basis) {
     static const struct greystroke_basis held = {UINT32_MAX, SIDE, UINT32_MAX};
-    static const struct greystroke_clip no_clip = {5, 0, 4, SIDE};
     static const uint8_t end[] = {0};
     REFUSED(read, number, 0, greystroke_read_record(end, sizeof end, basis));
     REFUSED(read, number, 0, greystroke_read_record(NULL, 0, basis));
@@ -154,6 +186,7 @@ static void try_basis(uint32_t number, struct greystroke_basis basis) {
 static void try_size(uint32_t w, uint32_t h) {
     REFUSED(draw, GREYSTROKE_PAGE_SIZE, 0,
         greystroke_draw_shape(page, sizeof page, w, h, whole, LEVEL, lawful[2]));
+    REFUSED(column, GREYSTROKE_PAGE_SIZE, 0, greystroke_last_column(w, h, whole, lawful[0]));
     for (uint32_t version = 1; version <= 2; version++)
         try_basis(GREYSTROKE_PAGE_SIZE, (struct greystroke_basis){version, w, h});
 }
@@ -172,6 +205,7 @@ static void try_versions(void) {
 static void try_clip(struct greystroke_clip clip) {
     REFUSED(draw, GREYSTROKE_CLIP, 0,
         greystroke_draw_shape(page, sizeof page, SIDE, SIDE, clip, LEVEL, lawful[2]));
+    REFUSED(column, GREYSTROKE_CLIP, 0, greystroke_last_column(SIDE, SIDE, clip, lawful[0]));
     WRITE_REFUSED(GREYSTROKE_CLIP, 10, basis_2,
         greystroke_write_clip(room, sizeof room, 10, basis_2, clip));
 }
@@ -368,10 +402,26 @@ static void expect_read(size_t record, uint32_t kind, const int32_t numbers[6]) 
     }
 }
 
+/* The call finds this column, or none. */
+static void expect_column(
+    struct greystroke_column_answer answer, uint32_t found, uint64_t column) {
+    if (answer.refusal != 0 || answer.place != 0 || answer.found != found
+        || answer.column != column) {
+        wrong = true;
+        printf("another last column: %u, %llu\n", (unsigned)answer.found,
+            (unsigned long long)answer.column);
+    }
+}
+
 /* What is lawful is taken. */
 static void try_lawful(void) {
+    static const struct greystroke_clip corner = {6, 6, SIDE, SIDE};
     static const int32_t player[6] = {PLAYER};
     size_t length = starts[records - 1];
+    for (size_t s = 0; s < 2; s++) {
+        expect_column(greystroke_last_column(SIDE, SIDE, whole, lawful[s]), 1, 3);
+        expect_column(greystroke_last_column(SIDE, SIDE, corner, lawful[s]), 0, 0);
+    }
     expect_read(PLAYER_RECORD, GREYSTROKE_KIND_PLAYER, player);
     for (size_t s = 0; s < COUNT(lawful); s++)
         expect_read(FIRST_SHAPE + s, lawful[s].kind, lawful[s].numbers);
@@ -392,6 +442,7 @@ int main(void) {
     write_list();
     try_shapes();
     try_pixels();
+    try_columns();
     try_pages();
     try_versions();
     try_players();

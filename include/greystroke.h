@@ -39,7 +39,7 @@ enum greystroke_refusal {
     GREYSTROKE_WRONG_VERSION = 2,   /* a version of a list other than 1 or 2 */
     GREYSTROKE_PAGE_SIZE = 3,       /* W or H outside 1 to 1,024 */
     GREYSTROKE_UNKNOWN_KIND = 4,    /* a kind of record that the version does not have, or a kind
-                                       that is no shape */
+                                       that is no shape, or no line where a line is asked for */
     GREYSTROKE_CUT_SHORT = 5,       /* a header or a record cut short, or no end record */
     GREYSTROKE_SURPLUS_BYTES = 6,   /* bytes behind the end record */
     GREYSTROKE_COORDINATE = 7,      /* a coordinate outside -4,096 to 4,095 */
@@ -125,6 +125,22 @@ struct greystroke_draw_answer {
 struct greystroke_draw_answer greystroke_draw_shape(
     uint8_t *page, size_t page_length, uint32_t w, uint32_t h, struct greystroke_clip clip,
     uint8_t level, struct greystroke_shape shape);
+
+/* `found` is 1 where the line has a last column (R6.5), and 0 where it has none; `column` is then
+ * 0. */
+struct greystroke_column_answer {
+    uint32_t refusal;
+    size_t place;
+    uint32_t found;
+    uint64_t column;
+};
+
+/* The last column of a line in which it touches a pixel that the clip keeps, on a page of w by h:
+ * the drawing of the line ends there. Columns are counted from 0, from the end with the
+ * lower x, or with the lower y where y is the longer span (R2). No page is lent.
+ * Refused, in this order: 4 where the kind is no line, then 3, 8, 7, 9 (R8.4, R8.7). */
+struct greystroke_column_answer greystroke_last_column(
+    uint32_t w, uint32_t h, struct greystroke_clip clip, struct greystroke_shape shape);
 
 /* n over d, not reduced; off the shape 0 over d (R6.3). */
 struct greystroke_coverage_answer {

@@ -7,6 +7,7 @@ pub fn answer(line: &str) -> String {
     let (table, call) = line.split_once(' ').unwrap_or((line, ""));
     match table {
         "queries" => rows::queries(call, library::coverage),
+        "columns" => rows::columns(call, library::last_column),
         "draws" => rows::draws(call, library::draw_shape),
         "writes" => rows::writes(call, library::write),
         "reads" => rows::reads(call, library::read_record),

@@ -3,7 +3,7 @@
 use std::fs;
 use std::path::{Path, PathBuf};
 
-pub const TABLES: [&str; 5] = ["queries", "draws", "writes", "reads", "lists"];
+pub const TABLES: [&str; 6] = ["queries", "columns", "draws", "writes", "reads", "lists"];
 
 /// One row of a table: the call, and the answer right of the arrow.
 pub struct Row {

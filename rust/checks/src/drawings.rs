@@ -98,7 +98,7 @@ fn most_of(random: &mut Random, side: u16) -> (u16, u16) {
     (low, low + length)
 }
 
-fn spoil_clip(random: &mut Random, clip: &mut Clip, width: u16, height: u16) {
+pub(crate) fn spoil_clip(random: &mut Random, clip: &mut Clip, width: u16, height: u16) {
     let beyond = |side: u16| side.saturating_add(1);
     match random.between(0, 5) {
         0 => clip.x1 = beyond(width),
@@ -140,7 +140,7 @@ fn last_corner(clip: &Clip) -> (i64, i64) {
     (clip.x1.into(), clip.y1.into())
 }
 
-fn line(random: &mut Random, near: (i64, i64)) -> Line {
+pub(crate) fn line(random: &mut Random, near: (i64, i64)) -> Line {
     let (x, y) = near;
     let span = random.between(-30, 30);
     let far = match random.between(0, 9) {
@@ -156,7 +156,7 @@ fn line(random: &mut Random, near: (i64, i64)) -> Line {
 }
 
 /// A line whose ends are both far off, and which passes close to a point.
-fn line_through(random: &mut Random, (x, y): (i64, i64)) -> Line {
+pub(crate) fn line_through(random: &mut Random, (x, y): (i64, i64)) -> Line {
     let (across, down) = (random.between(-12, 12), random.between(-12, 12));
     let (back, forth) = (random.between(100, 250), random.between(100, 250));
     let nudge = random.between(-1, 1);
@@ -166,7 +166,7 @@ fn line_through(random: &mut Random, (x, y): (i64, i64)) -> Line {
 }
 
 /// A line between two points, either of them its first end.
-fn line_between(random: &mut Random, one: (i64, i64), other: (i64, i64)) -> Line {
+pub(crate) fn line_between(random: &mut Random, one: (i64, i64), other: (i64, i64)) -> Line {
     let (first, last) = random.pick(&[(one, other), (other, one)]);
     let within = |value: i64| clamped(value.clamp(-4096, 4095));
     Line {

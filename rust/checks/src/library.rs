@@ -18,6 +18,16 @@ pub fn coverage(shape: &Shape, x: i16, y: i16) -> Result<Fraction, Refused> {
     }
 }
 
+pub fn last_column(
+    width: u16,
+    height: u16,
+    clip: &Clip,
+    line: &Line,
+) -> Result<Option<u64>, Refused> {
+    let (size, clip) = (library_size(width, height), library_clip(clip));
+    greystroke::last_column(size, clip, library_line(line)).map_err(without_place)
+}
+
 pub fn draw_shape(call: &mut ShapeCall) -> Result<u64, Refused> {
     let size = library_size(call.width, call.height);
     let clip = library_clip(&call.clip);
@@ -170,15 +180,26 @@ fn reference_shape(shape: greystroke::Shape) -> Shape {
     }
 }
 
+fn library_line(line: &Line) -> greystroke::Line {
+    let &Line {
+        exact,
+        x0,
+        y0,
+        x1,
+        y1,
+    } = line;
+    greystroke::Line {
+        exact,
+        x0,
+        y0,
+        x1,
+        y1,
+    }
+}
+
 fn library_shape(shape: &Shape) -> greystroke::Shape {
     match *shape {
-        Shape::Line(line) => greystroke::Shape::Line(greystroke::Line {
-            exact: line.exact,
-            x0: line.x0,
-            y0: line.y0,
-            x1: line.x1,
-            y1: line.y1,
-        }),
+        Shape::Line(line) => greystroke::Shape::Line(library_line(&line)),
         Shape::Disc(disc) => greystroke::Shape::Disc(greystroke::Disc {
             x: disc.x,
             y: disc.y,

@@ -46,6 +46,13 @@ pub fn parse_shape(text: &str) -> Shape {
     }
 }
 
+pub fn parse_line(text: &str) -> Line {
+    match parse_shape(text) {
+        Shape::Line(line) => line,
+        shape => panic!("{shape:?} is no line"),
+    }
+}
+
 fn parse_disc(fields: &str) -> Shape {
     let [x, y, radius]: [i32; 3] = numbers(fields);
     Shape::Disc(Disc {

@@ -4,11 +4,11 @@
 
 use crate::cases::{parse_hex, show_hex};
 use crate::notation::{
-    narrow, numbers, parse_clip, parse_shape, parse_writable, show_record, Writable,
+    narrow, numbers, parse_clip, parse_line, parse_shape, parse_writable, show_record, Writable,
 };
 use reference::coverage::Fraction;
 use reference::refusal::Refused;
-use reference::shape::{Basis, Clip, Record, Shape, PLAYERS};
+use reference::shape::{Basis, Clip, Line, Record, Shape, PLAYERS};
 
 /// The state of a writer, the list included.
 #[derive(Clone, Debug, PartialEq, Eq)]
@@ -34,6 +34,19 @@ pub fn queries(call: &str, ask: impl Fn(&Shape, i16, i16) -> Result<Fraction, Re
     let [x, y] = numbers(pixel);
     match ask(&parse_shape(shape), x, y) {
         Ok(cover) => format!("{} {}", cover.n, cover.d),
+        Err(refusal) => refused(&refusal, false),
+    }
+}
+
+pub fn columns(
+    call: &str,
+    ask: impl Fn(u16, u16, &Clip, &Line) -> Result<Option<u64>, Refused>,
+) -> String {
+    let [size, clip, line] = fields(call);
+    let [width, height] = numbers(size);
+    match ask(width, height, &parse_clip(clip), &parse_line(line)) {
+        Ok(Some(column)) => column.to_string(),
+        Ok(None) => "none".to_string(),
         Err(refusal) => refused(&refusal, false),
     }
 }
@@ -123,7 +136,7 @@ fn fields<const N: usize>(call: &str) -> [&str; N] {
 }
 
 /// Byte k is 37·k + 11 modulo 256, so that a byte left alone is told from a drawn one.
-fn starting_page(length: usize) -> Vec<u8> {
+pub fn starting_page(length: usize) -> Vec<u8> {
     (0..length).map(|k| ((37 * k + 11) % 256) as u8).collect()
 }
 

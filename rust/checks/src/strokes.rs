@@ -4,7 +4,7 @@ use crate::random::Random;
 use reference::shape::{Disc, Line, Ring, Shape};
 
 const EDGES: [i16; 9] = [-4096, -4095, -1024, -1, 0, 1, 1024, 4094, 4095];
-const OUTSIDE: [i16; 4] = [i16::MIN, -4097, 4096, i16::MAX];
+pub(crate) const OUTSIDE: [i16; 4] = [i16::MIN, -4097, 4096, i16::MAX];
 const RADII: [u16; 9] = [0, 1, 2, 3, 5, 254, 255, 256, u16::MAX];
 
 /// A number that may have left 16 bits, brought back into them.

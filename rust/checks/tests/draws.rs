@@ -5,11 +5,11 @@ use checks::calls::answer;
 use checks::cases::rows;
 use checks::classes::{direction, directions, kind, signed_spans, Tally};
 use checks::drawings::drawing;
-use checks::library;
 use checks::random::Random;
 use checks::rows::ShapeCall;
+use checks::{library, reference_page};
 use reference::coverage::exact_coverage;
-use reference::page::{draw_shape, page_length};
+use reference::page::page_length;
 use reference::refusal::Refused;
 use reference::shape::{page_size_refusal, Clip, Disc, Line, Ring, Shape};
 
@@ -18,17 +18,6 @@ const DRAWS: u32 = 60_000;
 const LEAST: u32 = 30;
 
 type Answer = Result<u64, Refused>;
-
-fn reference_draw(call: &mut ShapeCall) -> Answer {
-    draw_shape(
-        &mut call.page,
-        call.width,
-        call.height,
-        &call.clip,
-        call.level,
-        &call.shape,
-    )
-}
 
 /// Classes that a run must meet.
 fn wanted() -> Vec<String> {
@@ -246,7 +235,7 @@ fn describe(call: &ShapeCall) -> String {
 /// Draws by the reference and by the library, which must agree.
 fn agreed(call: &ShapeCall) -> (ShapeCall, Answer) {
     let (mut expected, mut found) = (call.clone(), call.clone());
-    let expected_answer = reference_draw(&mut expected);
+    let expected_answer = reference_page::draw_shape(&mut expected);
     let found_answer = library::draw_shape(&mut found);
     assert_eq!(found_answer, expected_answer, "{}", describe(call));
     // Equal bytes past W·H too, and after a refusal equal to those before it.
@@ -321,7 +310,7 @@ fn stored_rows_agree() {
         let found = answer(&format!("draws {}", row.call));
         assert_eq!(found, row.answer, "{}", row.call);
     }
-    assert_eq!(rows.len(), 180);
+    assert_eq!(rows.len(), 267);
 }
 
 /// The answer and the page after one shape on a page of one level, under a whole clip.

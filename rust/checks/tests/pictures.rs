@@ -103,7 +103,7 @@ fn stored_rows_agree() {
         let found = answer(&format!("lists {}", row.call));
         assert_eq!(found, row.answer, "{}", row.call);
     }
-    assert_eq!(rows.len(), 190);
+    assert_eq!(rows.len(), 234);
 }
 
 #[test]

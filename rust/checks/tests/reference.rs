@@ -1,29 +1,19 @@
 //! The reference against every stored table and list.
 
 use checks::cases::{list_cases, rows, TABLES};
+use checks::reference_page::draw_shape;
 use checks::reference_writer::write;
-use checks::rows::{self as answers, ShapeCall};
+use checks::rows as answers;
 use reference::exact::{bound, byte_after, exact_blend, touches_at, within};
 use reference::list::{check, draw_list, Accepted};
-use reference::refusal::Refused;
 use reference::shape::PLAYERS;
-use reference::{coverage, page, print, reader};
-
-fn draw(call: &mut ShapeCall) -> Result<u64, Refused> {
-    page::draw_shape(
-        &mut call.page,
-        call.width,
-        call.height,
-        &call.clip,
-        call.level,
-        &call.shape,
-    )
-}
+use reference::{column, coverage, page, print, reader};
 
 fn answer(table: &str, call: &str) -> String {
     match table {
         "queries" => answers::queries(call, coverage::query),
-        "draws" => answers::draws(call, draw),
+        "columns" => answers::columns(call, column::last_column),
+        "draws" => answers::draws(call, draw_shape),
         "writes" => answers::writes(call, write),
         "reads" => answers::reads(call, reader::read_record),
         "lists" => answers::lists(call, |list, page| {
@@ -43,7 +33,7 @@ fn every_row_of_every_table() {
             count += 1;
         }
     }
-    assert_eq!(count, 291 + 180 + 215 + 194 + 190);
+    assert_eq!(count, 334 + 90 + 267 + 245 + 250 + 234);
 }
 
 #[test]

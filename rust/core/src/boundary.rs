@@ -94,6 +94,15 @@ pub struct DrawAnswer {
     pub touched: u64,
 }
 
+/// Whether the line has a last column, 1 or 0, and which; 0 where it has none.
+#[repr(C)]
+pub struct ColumnAnswer {
+    pub refusal: u32,
+    pub place: usize,
+    pub found: u32,
+    pub column: u64,
+}
+
 /// A record: how many bytes it has, its kind byte, and its numbers in order.
 #[repr(C)]
 pub struct ReadAnswer {
@@ -133,9 +142,15 @@ pub struct WriteAnswer {
     pub basis: GivenBasis,
 }
 
-// The query takes plain numbers by value and has no precondition, so it is safe to call.
+// The queries take plain numbers by value and have no precondition, so they are safe to call.
 extern "C" {
     pub fn greystroke_coverage(shape: GivenShape, x: i32, y: i32) -> CoverageAnswer;
+    pub fn greystroke_last_column(
+        w: u32,
+        h: u32,
+        clip: GivenClip,
+        shape: GivenShape,
+    ) -> ColumnAnswer;
 }
 
 // A page is lent as its first byte and its length. Safe to call if these are a slice that nothing

@@ -3,9 +3,10 @@
 //! A shape is given in lattice corners from −4096 to 4095; pixel (x, y) is the square between
 //! the corners (x, y) and (x + 1, y + 1). [`draw_shape`] blends a shape into a lent page, one byte
 //! a pixel. [`coverage`] tells the share of one pixel that a shape covers, as a fraction that is
-//! not reduced. A drawing list holds many shapes as bytes: [`Writer`] makes one, [`read_record`]
-//! reads it record by record, [`check_list`] tries it whole, and [`draw_list`] draws it and counts
-//! what each player's shapes touch.
+//! not reduced, and [`last_column`] how far a line goes before it leaves a clip for good. A drawing
+//! list holds many shapes as bytes: [`Writer`] makes one, [`read_record`] reads it record by
+//! record, [`check_list`] tries it whole, and [`draw_list`] draws it and counts what each player's
+//! shapes touch.
 //!
 //! ```
 //! use greystroke::{coverage, draw_shape, Clip, Fraction, Line, Refusal, Shape, Size};
@@ -21,6 +22,7 @@
 //! ```
 
 mod boundary;
+mod column;
 mod coverage;
 mod drawing;
 mod list;
@@ -28,6 +30,7 @@ mod picture;
 mod refusal;
 mod shape;
 
+pub use column::last_column;
 pub use coverage::{coverage, Fraction};
 pub use drawing::{draw_shape, Clip, Size};
 pub use list::{

@@ -88,7 +88,7 @@ impl Frame {
     }
 
     /// Column and row of a pixel, counted from the first end.
-    fn place(&self, x: i32, y: i32) -> (i128, i128) {
+    pub fn place(&self, x: i32, y: i32) -> (i128, i128) {
         let (x, y) = (i128::from(x), i128::from(y));
         let (x, y) = if self.exchanged { (y, x) } else { (x, y) };
         let (i, j) = (x - self.first.0, y - self.first.1);

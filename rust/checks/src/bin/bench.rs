@@ -142,16 +142,40 @@ fn far_line(random: &mut Random) -> Shape {
         (along as i16, across as i16)
     };
     let (first, last) = (end(reach[0]), end(reach[1]));
-    let (first, last) = random.pick(&[(first, last), (last, first)]);
+    turned_line(random, first, last)
+}
+
+/// A line with one end on the page and the other anywhere.
+fn flung_line(random: &mut Random) -> Shape {
+    let mut corner = |low, high| {
+        let mut coordinate = || random.between(low, high) as i16;
+        (coordinate(), coordinate())
+    };
+    let (near, far) = (corner(0, SIDE.into()), corner(-4096, 4095));
+    turned_line(random, near, far)
+}
+
+/// A line of 500 to 1,000 columns, all of which the page has, in rows that it has not.
+fn missed_line(random: &mut Random) -> Shape {
+    let longer = random.between(500, 1000);
+    let shorter = random.between(0, longer - 1);
+    let along = random.between(0, i64::from(SIDE) - longer);
+    // Between the row lines a and b a line touches rows a - 1 to b.
+    let before = random.between(-4096, -1 - shorter);
+    let behind = random.between(i64::from(SIDE) + 1, 4095 - shorter);
+    let low = random.pick(&[before, behind]);
+    let (across, over) = random.pick(&[(low, low + shorter), (low + shorter, low)]);
+    let first = (along as i16, across as i16);
+    let last = ((along + longer) as i16, over as i16);
+    turned_line(random, first, last)
+}
+
+/// A line between two corners, as they are or with x and y exchanged, from either of them.
+fn turned_line(random: &mut Random, one: (i16, i16), other: (i16, i16)) -> Shape {
+    let (first, last) = random.pick(&[(one, other), (other, one)]);
     let exact = random.flip();
     let steep = random.flip();
-    let turn = |(along, across)| {
-        if steep {
-            (across, along)
-        } else {
-            (along, across)
-        }
-    };
+    let turn = |(x, y)| if steep { (y, x) } else { (x, y) };
     let ((x0, y0), (x1, y1)) = (turn(first), turn(last));
     Shape::Line(Line {
         exact,
@@ -205,6 +229,16 @@ fn print_line_ratios() {
         "far_lines",
         "lines with ends 2,000 to 3,300 from the page's middle, all directions, half exact",
         far_line,
+    );
+    print_ratio(
+        "flung_lines",
+        "lines with one end on the page and the other anywhere in range, half exact",
+        flung_line,
+    );
+    print_ratio(
+        "missed_lines",
+        "lines of 500 to 1,000 columns beside the page, all directions, half exact",
+        missed_line,
     );
 }
 
