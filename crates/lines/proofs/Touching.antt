@@ -3,12 +3,13 @@ use mathlib.Core.Bool.{true}
 use mathlib.Core.Path.{_≡_, sym, ap, _∙_}
 use mathlib.Core.Logic.{_⊎_, inl, inr, ⊎-elim}
 use Prim.Native.Nat.{ℕ, _+_, _-_, _*_, _/_, _≤_, _<_}
-use native.Mathlib.Nat.{mul-le-mul-left, div-mul-le-self, lt-mul-div-succ, lt-of-mul-lt-mul-left}
+use native.Mathlib.Nat.{mul-le-mul, mul-le-mul-left, div-mul-le-self, lt-mul-div-succ, lt-of-mul-lt-mul-left}
 use native.Mathlib.Omega.{arith}
 use lib.IntN.{subℕ}
-use borrow.Author.Tests.{le-leb, lt-ltb}
+use lib.Dec.{ltb}
+use borrow.Author.Tests.{le-leb, lt-ltb, ltb-true}
 use Rattle.numbers.specs.inner.Offset.{origin}
-use Rattle.numbers.proofs.Order.{lt-or-le}
+use Rattle.numbers.proofs.Order.{lt-or-le, both-true}
 use Rattle.shapes.specs.declared.Line.{Line}
 use Rattle.shapes.specs.declared.Shape.the-variants.{Line as line}
 use Rattle.coverage.specs.Line.{rowOf, restOf}
@@ -20,7 +21,7 @@ use Rattle.coverage.proofs.Touched.{row-touched, row-untouched}
 use Rattle.page.specs.inner.Paint.{Lawful}
 use Rattle.page.specs.declared.View.{View}
 use Rattle.lines.specs.inner.Layout.{alongOf, alongFrom, alongEnd, rowOn, Laid, shown}
-use Rattle.lines.specs.inner.Columns.{Touching, Columns, Common, Meets, Misses, TouchedPart, edgeOver}
+use Rattle.lines.specs.inner.Columns.{Touching, Columns, Common, hasRows, Meets, Misses, TouchedPart, edgeOver}
 use Rattle.lines.specs.declared.layout.Layout.{Layout}
 use Rattle.lines.proofs.Strip.{InStrip, in-view, view-none, strip-none, strip-small, strip-whole, line-left, line-right, line-inside}
 use Rattle.lines.proofs.RowPixel.{Pixel, pixel, row-kept}
@@ -48,6 +49,21 @@ some-row l s low high u long some enter leave = go (lt-or-le u (2 * l * (low + 2
         let e : q ≡ q - 1 + 1 = omega arith in
         let split : 2 * l * q ≡ 2 * l * (q - 1) + 2 * l = ap (λ (k : ℕ). 2 * l * k) e ∙ omega arith in
         record { row = q - 1; least = omega arith; less = omega arith; above = omega arith; below = omega arith }
+
+-- ---- a clip that has rows −1 to s
+module _ (lay : Layout) (f : Frame) where
+  pub has-rows : hasRows lay f ≡ true → (lay .low < rowOrigin) × (rowOrigin + f .s + 1 < lay .high)
+  has-rows t =
+      let both = both-true (ltb (lay .low) rowOrigin) (ltb (rowOrigin + f .s + 1) (lay .high)) t in
+      (ltb-true (lay .low) rowOrigin (both .0), ltb-true (rowOrigin + f .s + 1) (lay .high) (both .1))
+
+  meets-all : (p : ℕ) → 0 < f .l → f .s ≤ f .l → f .x ≤ p + origin → p + origin < f .x + f .l → hasRows lay f ≡ true → Meets f lay p
+  meets-all p long short first last t =
+      let rows = has-rows t in
+      let i : ℕ = p + origin - f .x in (
+        omega (arith, mul-le-mul-left (2 * f .l) (rows .0)),
+        omega (arith, mul-le-mul-left (2 * f .l) (rows .1), mul-le-mul {n₁ = f .s} {m₁ = p + origin - f .x} {n₂ = f .s} {m₂ = f .l} (omega arith) (omega arith)),
+      )
 
 -- ---- a line on a page
 module _ (c : View) (n : Line) (f : Frame) (size : ℕ) (w : Lawful c size) (g : Framed n f) where
@@ -134,3 +150,22 @@ module _ (c : View) (n : Line) (f : Frame) (size : ℕ) (w : Lawful c size) (g :
               (λ x y i o. in-common common i (λ h₁ h₂ h₃ h₄. missed i h₃ h₄ (part .outside (alongOf f x y) h₁ h₂ o)));
           each = λ k h₁ h₂. touching some k (omega arith) (omega arith) (omega arith) (omega arith) (part .within k h₁ h₂);
         }
+
+    -- where the clip has every row that the line can have, they are all of those in common
+    pub all-touched : {p e : ℕ} → hasRows lay f ≡ true → Common c f p e → Columns c n f p e
+    all-touched {p} {e} t common = ⊎-elim some (none-common common) (lt-or-le p e)
+      where
+        rows : (lay .low < rowOrigin) × (rowOrigin + f .s + 1 < lay .high)
+        rows = has-rows lay f t
+
+        some : p < e → Columns c n f p e
+        some h =
+            let q = common .between h in
+            touched-columns (omega (arith, rows .0, rows .1)) h common
+            (record {
+              least = omega arith;
+              order = omega arith;
+              most = omega arith;
+              within = λ k h₁ h₂. meets-all lay f k (g .long) (g .short) (omega (arith, q .first)) (omega (arith, q .end .last)) t;
+              outside = λ k h₁ h₂ o. absurd (⊎-elim (λ z. omega arith) (λ z. omega arith) o);
+            })

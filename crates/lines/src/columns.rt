@@ -6,11 +6,12 @@ use coverage::line::Frame;
 use coverage::line::ROW_ORIGIN;
 use coverage::line::column_reaching;
 use page::View;
+ghost use mathlib.Core.Path.{_≡_};
 ghost use Prim.Native.Nat.{_+_, _*_, _≤_, _<_};
 ghost use Rattle.numbers.specs.inner.Offset.{offsetMost};
 ghost use Rattle.coverage.specs.inner.Frame.{Framed};
 ghost use Rattle.page.specs.inner.Paint.{Lawful};
-ghost use Rattle.lines.specs.inner.Columns.{Common, PartFits, Part, RowsFit, InsidePart, TouchedPart, Columns};
+ghost use Rattle.lines.specs.inner.Columns.{Common, PartFits, Part, RowsFit, hasRows, InsidePart, TouchedPart, Columns};
 
 // The columns of the page, or its rows, from one to before another.
 pub struct Span {
@@ -46,11 +47,26 @@ fn part_of(f: Frame, low: u64, high: u64, from: usize, end: usize) -> Span
     }
 }
 
+// Whether the clip has every row that a line can have: they go from one below row 0 to row s.
+fn has_rows(lay: Layout, f: Frame) -> bool
+    requires { ⌜ f .s ≤ offsetMost ⌝ }
+    ensures { λ t. ⌜ t ≡ hasRows lay f ⌝ }
+{
+    if lay.low < layout::ROW_ORIGIN {
+        layout::ROW_ORIGIN + (f.s as usize) + 1 < lay.high
+    } else {
+        false
+    }
+}
+
 // The columns among those from one to end whose rows the clip has all.
 pub(crate) fn inside_of(lay: Layout, f: Frame, from: usize, end: usize) -> Span
     requires { ⌜ PartFits f from end × RowsFit lay ⌝ }
     ensures { λ r. ⌜ InsidePart f lay from end (r .from) (r .end) ⌝ }
 {
+    if has_rows(lay, f) {
+        return Span { from, end };
+    }
     let above = numbers::less((lay.low as u64) + 1, ROW_ORIGIN);
     let below = numbers::less(lay.high as u64, ROW_ORIGIN + 1);
     part_of(
@@ -93,4 +109,15 @@ pub fn columns_of(view: View, line: shapes::Line, f: Frame) -> Span
         return Span { from: 0, end: 0 };
     }
     touched_of(lay, f, common.from, common.end)
+}
+
+// The columns that a walk takes. They are those: a line of which the clip has every row touches a pixel in each, and needs no more tests.
+pub(crate) fn walk_of(view: View, line: shapes::Line, f: Frame) -> Span
+    requires { ⌜ Lawful view (view .h * view .w) × Framed line f ⌝ }
+    ensures { λ r. ⌜ Columns view line f (r .from) (r .end) ⌝ }
+{
+    if has_rows(layout::layout_of(view, f), f) {
+        return common_of(view, f);
+    }
+    columns_of(view, line, f)
 }

@@ -84,7 +84,7 @@ pub fn draw_line(page: &mut [u8], view: View, line: shapes::Line, f: Frame, leve
     ensures { λ t. ⌜ Drawn (view .w) (view .h) (inkOf level (drawnD (asShape line)))
         (inView view (shapeOn (asShape line))) (now (page .entry)) (now (page .exit)) t ⌝ }
 {
-    let span = columns::columns_of(view, line, f);
+    let span = columns::walk_of(view, line, f);
     if span.end <= span.from {
         return 0;
     }

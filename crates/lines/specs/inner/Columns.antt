@@ -1,7 +1,9 @@
 -- Which columns of a line a walk takes. A column is named by the page's column p, or by its row where the line is steep.
+use mathlib.Core.Bool.{Bool, _&&_}
 use mathlib.Core.Path.{_≡_}
 use mathlib.Core.Logic.{_⊎_}
 use Prim.Native.Nat.{ℕ, _+_, _-_, _*_, _≤_, _<_}
+use lib.Dec.{ltb}
 use Rattle.numbers.specs.inner.Offset.{origin, offsetMost}
 use Rattle.shapes.specs.declared.Line.{Line}
 use Rattle.shapes.specs.declared.Shape.the-variants.{Line as line}
@@ -63,6 +65,10 @@ pub record Part (f : Frame) (low high p e a b : ℕ) : Type 0 where
   pub within : (k : ℕ) → a ≤ k → k < b → (low ≤ edgeIn f k) × (edgeIn f k < high)
   pub before : (k : ℕ) → p ≤ k → k < a → edgeIn f k < low
   pub behind : (k : ℕ) → b ≤ k → k < e → high ≤ edgeIn f k
+
+-- the clip has the rows −1 to s, the only ones that a line can touch
+abbrev pub hasRows : Layout → Frame → Bool
+hasRows lay f = ltb (lay .low) rowOrigin && ltb (rowOrigin + f .s + 1) (lay .high)
 
 -- columns a to b are among columns p to e, and inside
 pub record InsidePart (f : Frame) (lay : Layout) (p e a b : ℕ) : Type 0 where
