@@ -1,5 +1,5 @@
-// Which columns of a line a walk takes: those that the clip has and in which the line touches a pixel, and among them those whose rows the
-// clip has all. The band's edges only rise, so that either lie together.
+// Which columns of a line a walk takes: those in which the line touches a pixel under the clip, and among them those whose rows the clip
+// has all. The band's edges only rise, so that either lie together.
 use crate::layout;
 use crate::layout::Layout;
 use coverage::line::Frame;
@@ -47,26 +47,11 @@ fn part_of(f: Frame, low: u64, high: u64, from: usize, end: usize) -> Span
     }
 }
 
-// Whether the clip has every row that a line can have: they go from one below row 0 to row s.
-fn has_rows(lay: Layout, f: Frame) -> bool
-    requires { ⌜ f .s ≤ offsetMost ⌝ }
-    ensures { λ t. ⌜ t ≡ hasRows lay f ⌝ }
-{
-    if lay.low < layout::ROW_ORIGIN {
-        layout::ROW_ORIGIN + (f.s as usize) + 1 < lay.high
-    } else {
-        false
-    }
-}
-
 // The columns among those from one to end whose rows the clip has all.
 pub(crate) fn inside_of(lay: Layout, f: Frame, from: usize, end: usize) -> Span
     requires { ⌜ PartFits f from end × RowsFit lay ⌝ }
     ensures { λ r. ⌜ InsidePart f lay from end (r .from) (r .end) ⌝ }
 {
-    if has_rows(lay, f) {
-        return Span { from, end };
-    }
     let above = numbers::less((lay.low as u64) + 1, ROW_ORIGIN);
     let below = numbers::less(lay.high as u64, ROW_ORIGIN + 1);
     part_of(
@@ -111,7 +96,19 @@ pub fn columns_of(view: View, line: shapes::Line, f: Frame) -> Span
     touched_of(lay, f, common.from, common.end)
 }
 
-// The columns that a walk takes. They are those: a line of which the clip has every row touches a pixel in each, and needs no more tests.
+// Whether the clip has every row that a line can have: they go from one below row 0 to row s.
+fn has_rows(lay: Layout, f: Frame) -> bool
+    requires { ⌜ f .s ≤ offsetMost ⌝ }
+    ensures { λ t. ⌜ t ≡ hasRows lay f ⌝ }
+{
+    if lay.low < layout::ROW_ORIGIN {
+        layout::ROW_ORIGIN + (f.s as usize) + 1 < lay.high
+    } else {
+        false
+    }
+}
+
+// The columns that a walk takes, which are the touched ones. Where the clip has every row of a line, no edge has to be compared.
 pub(crate) fn walk_of(view: View, line: shapes::Line, f: Frame) -> Span
     requires { ⌜ Lawful view (view .h * view .w) × Framed line f ⌝ }
     ensures { λ r. ⌜ Columns view line f (r .from) (r .end) ⌝ }

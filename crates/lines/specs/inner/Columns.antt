@@ -66,10 +66,6 @@ pub record Part (f : Frame) (low high p e a b : ℕ) : Type 0 where
   pub before : (k : ℕ) → p ≤ k → k < a → edgeIn f k < low
   pub behind : (k : ℕ) → b ≤ k → k < e → high ≤ edgeIn f k
 
--- the clip has the rows −1 to s, the only ones that a line can touch
-abbrev pub hasRows : Layout → Frame → Bool
-hasRows lay f = ltb (lay .low) rowOrigin && ltb (rowOrigin + f .s + 1) (lay .high)
-
 -- columns a to b are among columns p to e, and inside
 pub record InsidePart (f : Frame) (lay : Layout) (p e a b : ℕ) : Type 0 where
   pub least : p ≤ a
@@ -95,3 +91,7 @@ pub record TouchedPart (f : Frame) (lay : Layout) (p e a b : ℕ) : Type 0 where
   pub most : b ≤ e
   pub within : (k : ℕ) → a ≤ k → k < b → Meets f lay k
   pub outside : (k : ℕ) → p ≤ k → k < e → (k < a) ⊎ (b ≤ k) → Misses f lay k
+
+-- the clip has the rows −1 to s, the only ones that a line can touch
+abbrev pub hasRows : Layout → Frame → Bool
+hasRows lay f = ltb (lay .low) rowOrigin && ltb (rowOrigin + f .s + 1) (lay .high)
