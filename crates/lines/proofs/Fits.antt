@@ -1,11 +1,12 @@
--- Bounds of what a walk works with: the rows of a column, the layout of a page, the rows of its clip.
+-- Bounds of what a walk works with: the rows of a column, the layout of a page, the rows of its clip, the columns of a line.
 use mathlib.Core.Bool.{Bool, true, false, cond}
 use Prim.Native.Nat.{ℕ, zero, suc, _*_, _^_, _≤_, _<_}
 use native.Mathlib.Nat.{mul-le-mul}
 use native.Mathlib.Omega.{arith}
 use Rattle.numbers.specs.inner.Offset.{offsetMost}
 use Rattle.coverage.specs.Line.{exactWhole, approxWhole}
-use Rattle.coverage.specs.inner.Frame.{rowOrigin}
+use Rattle.coverage.specs.inner.Frame.{rowOrigin, Framed}
+use Rattle.shapes.specs.declared.Line.{Line}
 use Rattle.coverage.specs.inner.Rows.{wholeOf}
 use Rattle.coverage.specs.declared.line.Frame.{Frame}
 use Rattle.coverage.specs.declared.line.Rows.{Rows}
@@ -15,8 +16,8 @@ use Rattle.coverage.proofs.Column.{Filled}
 use Rattle.page.specs.inner.Ink.{Coverage}
 use Rattle.page.specs.inner.Paint.{Lawful}
 use Rattle.page.specs.declared.View.{View}
-use Rattle.lines.specs.inner.Layout.{alongEnd, edgeBy, Laid}
-use Rattle.lines.specs.inner.Columns.{RowsFit}
+use Rattle.lines.specs.inner.Layout.{alongEnd, Between, edgeBy, Laid}
+use Rattle.lines.specs.inner.Columns.{RowsFit, PartFits}
 use Rattle.lines.specs.declared.layout.Layout.{Layout}
 
 -- ---- the rows of a column are coverages
@@ -60,3 +61,8 @@ rows-fit c f lay size w d hy = let o = go (f .falls) (f .steep) in record { low 
     go true u = (omega arith, omega arith)
     go false true = (omega (arith, w .x-order, w .x-most, w .w-most), omega (arith, w .x-most, w .w-most))
     go false false = (omega (arith, w .y-order, w .y-most, w .h-most), omega (arith, w .y-most, w .h-most))
+
+-- ---- columns that the clip and the line have
+pub part-fits : {c : View} {n : Line} {f : Frame} {p e : ℕ} → Framed n f → Between c f p e → PartFits f p e
+part-fits f b =
+    record { first = b .first; order = omega (arith, b .some); last = b .end .last; long = f .long; short = f .short; right = f .right }

@@ -52,7 +52,7 @@ some-row l s low high u long some enter leave = go (lt-or-le u (2 * l * (low + 2
 
 -- ---- a clip that has rows −1 to s
 module _ (lay : Layout) (f : Frame) where
-  pub has-rows : hasRows lay f ≡ true → (lay .low < rowOrigin) × (rowOrigin + f .s + 1 < lay .high)
+  has-rows : hasRows lay f ≡ true → (lay .low < rowOrigin) × (rowOrigin + f .s + 1 < lay .high)
   has-rows t =
       let both = both-true (ltb (lay .low) rowOrigin) (ltb (rowOrigin + f .s + 1) (lay .high)) t in
       (ltb-true (lay .low) rowOrigin (both .0), ltb-true (rowOrigin + f .s + 1) (lay .high) (both .1))

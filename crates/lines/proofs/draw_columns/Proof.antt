@@ -4,7 +4,7 @@ use native.Mathlib.Omega.{arith}
 use lib.ListN.{length}
 use Rattle.coverage.proofs.Pixel.{whole-drawn}
 use Rattle.lines.specs.inner.Stroke.{Prepared}
-use Rattle.lines.proofs.Fits.{whole-fits, rows-fit}
+use Rattle.lines.proofs.Fits.{whole-fits, rows-fit, part-fits}
 use Rattle.lines.proofs.Walk.{drawable, three-parts}
 use borrow.Author.Needs.{needs}
 use Rattle.lines.proofs.draw_columns.Statement.{statement}
@@ -21,9 +21,8 @@ inside-of-requires c κs =
     let laid = c .before .before in
     let s = laid .before .before in
     let a = s .args in
-    let f = s .pre .1 in
-    let b = s .pre .2 in (
-      record { first = b .first; order = omega (arith, b .some); last = b .end .last; long = f .long; short = f .short; right = f .right },
+    let f = s .pre .1 in (
+      part-fits f (s .pre .2),
       rows-fit (a .view) (a .f) (laid .layout-of .result) (length (a .page .now)) (s .pre .0) (laid .layout-of .ensures) (f .high),
     )
 

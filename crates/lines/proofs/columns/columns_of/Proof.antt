@@ -2,7 +2,7 @@
 -- those in common.
 use Prim.Native.Nat.{_*_}
 use native.Mathlib.Omega.{arith}
-use Rattle.lines.proofs.Fits.{rows-fit}
+use Rattle.lines.proofs.Fits.{rows-fit, part-fits}
 use Rattle.lines.proofs.Touching.{touched-columns, none-common, none-shown}
 use borrow.Author.Needs.{needs}
 use Rattle.lines.proofs.columns.columns_of.Statement.{statement}
@@ -28,9 +28,8 @@ touched-of-requires : tie.Need-touched-of-requires
 touched-of-requires c κs =
     let l = c .before .before in
     let s = start l in
-    let f = s .pre .1 in
-    let b = l .before .before .before .common-of .ensures .between (l .before .if1 .left) in (
-      record { first = b .first; order = omega (arith, b .some); last = b .end .last; long = f .long; short = f .short; right = f .right },
+    let f = s .pre .1 in (
+      part-fits f (l .before .before .before .common-of .ensures .between (l .before .if1 .left)),
       rows-fit (s .args .view) (s .args .f) (l .layout-of .result) (s .args .view .h * s .args .view .w) (s .pre .0) (l .layout-of .ensures) (f .high),
     )
 
