@@ -52,10 +52,10 @@ some-row l s low high u long some enter leave = go (lt-or-le u (2 * l * (low + 2
 
 -- ---- a clip that has rows −1 to s
 module _ (lay : Layout) (f : Frame) where
-  has-rows : hasRows lay f ≡ true → (lay .low < rowOrigin) × (rowOrigin + f .s + 1 < lay .high)
+  has-rows : hasRows lay f ≡ true → (lay .low < rowOrigin) × (rowOrigin + f .s < lay .high)
   has-rows t =
-      let both = both-true (ltb (lay .low) rowOrigin) (ltb (rowOrigin + f .s + 1) (lay .high)) t in
-      (ltb-true (lay .low) rowOrigin (both .0), ltb-true (rowOrigin + f .s + 1) (lay .high) (both .1))
+      let both = both-true (ltb (lay .low) rowOrigin) (ltb (rowOrigin + f .s) (lay .high)) t in
+      (ltb-true (lay .low) rowOrigin (both .0), ltb-true (rowOrigin + f .s) (lay .high) (both .1))
 
   meets-all : (p : ℕ) → 0 < f .l → f .s ≤ f .l → f .x ≤ p + origin → p + origin < f .x + f .l → hasRows lay f ≡ true → Meets f lay p
   meets-all p long short first last t =
@@ -155,7 +155,7 @@ module _ (c : View) (n : Line) (f : Frame) (size : ℕ) (w : Lawful c size) (g :
     pub all-touched : {p e : ℕ} → hasRows lay f ≡ true → Common c f p e → Columns c n f p e
     all-touched {p} {e} t common = ⊎-elim some (none-common common) (lt-or-le p e)
       where
-        rows : (lay .low < rowOrigin) × (rowOrigin + f .s + 1 < lay .high)
+        rows : (lay .low < rowOrigin) × (rowOrigin + f .s < lay .high)
         rows = has-rows lay f t
 
         some : p < e → Columns c n f p e

@@ -102,7 +102,7 @@ fn has_rows(lay: Layout, f: Frame) -> bool
     ensures { λ t. ⌜ t ≡ hasRows lay f ⌝ }
 {
     if lay.low < layout::ROW_ORIGIN {
-        layout::ROW_ORIGIN + (f.s as usize) + 1 < lay.high
+        layout::ROW_ORIGIN + (f.s as usize) < lay.high
     } else {
         false
     }

@@ -48,7 +48,7 @@ pub record PartFits (f : Frame) (p e : ℕ) : Type 0 where
   pub short : f .s ≤ f .l
   pub right : f .x + f .l ≤ offsetMost
 
--- nor is one of the clip's rows
+-- nor is a row of the clip
 pub record RowsFit (lay : Layout) : Type 0 where
   pub low : lay .low < 2 * rowOrigin
   pub high : lay .high ≤ 2 * rowOrigin
@@ -77,7 +77,7 @@ pub record InsidePart (f : Frame) (lay : Layout) (p e a b : ℕ) : Type 0 where
 abbrev pub edgeOver : Frame → ℕ → ℕ
 edgeOver f p = 2 * f .l * rowOrigin + edgeIn f p
 
--- a touched row of column p lies in the clip's, or none does
+-- a touched row of column p is one of the clip's, or none is
 abbrev pub Meets : Frame → Layout → ℕ → Type 0
 Meets f lay p = (2 * f .l * lay .low < edgeOver f p + 2 * f .s) × (edgeOver f p < 2 * f .l * (lay .high + 1))
 
@@ -94,4 +94,4 @@ pub record TouchedPart (f : Frame) (lay : Layout) (p e a b : ℕ) : Type 0 where
 
 -- the clip has the rows −1 to s, the only ones that a line can touch
 abbrev pub hasRows : Layout → Frame → Bool
-hasRows lay f = ltb (lay .low) rowOrigin && ltb (rowOrigin + f .s + 1) (lay .high)
+hasRows lay f = ltb (lay .low) rowOrigin && ltb (rowOrigin + f .s) (lay .high)
