@@ -51,7 +51,7 @@ module _ (exact : Bool) (l s i g : ℕ) (long : 0 < l) (short : s ≤ l) where
   full : Filled (cutExcess l s r) (wholeOf exact l s) rows
   full = filled exact l s i long short
 
-  -- a level band has half a row above its column's middle
+  -- not both are 0: where s is, r is l
   some : 0 < r + 2 * s
   some = ⊎-elim (λ z. let e : r ≡ l = ap (λ (k : ℕ). restOf l k i) z ∙ level-column l i long .1 in omega arith) (λ z. omega arith) (eq-zero-or-pos s)
 

@@ -1,4 +1,4 @@
--- One shape on a lent page.
+-- One shape on a lent page, and the last column of a line.
 pub mod Touch
 pub mod Draw
 pub mod Column

@@ -1,4 +1,4 @@
-// One shape on a lent page.
+// One shape on a lent page, and the last column of a line.
 use coverage::line::frame_of;
 use lines::columns::columns_of;
 use page::View;

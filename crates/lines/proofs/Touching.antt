@@ -57,10 +57,9 @@ module _ (lay : Layout) (f : Frame) where
       let both = both-true (ltb (lay .low) rowOrigin) (ltb (rowOrigin + f .s) (lay .high)) t in
       (ltb-true (lay .low) rowOrigin (both .0), ltb-true (rowOrigin + f .s) (lay .high) (both .1))
 
-  meets-all : (p : ℕ) → 0 < f .l → f .s ≤ f .l → f .x ≤ p + origin → p + origin < f .x + f .l → hasRows lay f ≡ true → Meets f lay p
-  meets-all p long short first last t =
-      let rows = has-rows t in
-      let i : ℕ = p + origin - f .x in (
+  meets-all : (p : ℕ) → 0 < f .l → f .x ≤ p + origin → p + origin < f .x + f .l → hasRows lay f ≡ true → Meets f lay p
+  meets-all p long first last t =
+      let rows = has-rows t in (
         omega (arith, mul-le-mul-left (2 * f .l) (rows .0)),
         omega (arith, mul-le-mul-left (2 * f .l) (rows .1), mul-le-mul {n₁ = f .s} {m₁ = p + origin - f .x} {n₂ = f .s} {m₂ = f .l} (omega arith) (omega arith)),
       )
@@ -166,6 +165,6 @@ module _ (c : View) (n : Line) (f : Frame) (size : ℕ) (w : Lawful c size) (g :
               least = omega arith;
               order = omega arith;
               most = omega arith;
-              within = λ k h₁ h₂. meets-all lay f k (g .long) (g .short) (omega (arith, q .first)) (omega (arith, q .end .last)) t;
+              within = λ k h₁ h₂. meets-all lay f k (g .long) (omega (arith, q .first)) (omega (arith, q .end .last)) t;
               outside = λ k h₁ h₂ o. absurd (⊎-elim (λ z. omega arith) (λ z. omega arith) o);
             })
