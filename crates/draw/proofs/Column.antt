@@ -1,16 +1,14 @@
 -- The touched columns of a line, which a walk takes, are those of the definition.
 use mathlib.Core.Bool.{Bool, true, false, true≢false, cond, _&&_}
-use mathlib.Core.Path.{_≡_, refl, sym, ap, _∙_}
+use mathlib.Core.Path.{_≡_, refl, sym, _∙_}
 use mathlib.Core.Logic.{_⊎_, inl, inr, ⊎-elim}
 use Prim.Native.Nat.{ℕ, zero, suc, _+_, _-_, _*_, _≤_, _<_}
 use native.Mathlib.Omega.{arith}
-use lib.Dec.{eqb}
 use lib.IntN.{ℤ, pos}
 use borrow.Author.Tests.{eq-eqb, eqb-true, lt-ltb, le-ltb}
-use Rattle.numbers.specs.Sum.{sumTo}
 use Rattle.numbers.specs.inner.Offset.{origin}
 use Rattle.numbers.proofs.Integer.{Diff, above, below}
-use Rattle.numbers.proofs.Order.{lt-or-le, both-true}
+use Rattle.numbers.proofs.Order.{lt-or-le}
 use Rattle.numbers.proofs.Sum.{sum-zero, sum-some}
 use Rattle.shapes.specs.Limits.{shapeRefusal}
 use Rattle.shapes.specs.declared.Clip.{Clip}
@@ -20,9 +18,9 @@ use Rattle.coverage.specs.Frame.{columnOf}
 use Rattle.coverage.specs.inner.Frame.{Framed}
 use Rattle.coverage.specs.inner.OnPage.{shapeOn}
 use Rattle.coverage.specs.declared.line.Frame.{Frame}
-use Rattle.page.specs.inner.Paint.{inView, Lawful}
+use Rattle.page.specs.inner.Paint.{Lawful}
 use Rattle.lines.specs.inner.Layout.{alongOf}
-use Rattle.lines.specs.inner.Columns.{Columns, Touching}
+use Rattle.lines.specs.inner.Columns.{Columns}
 use Rattle.lines.proofs.Strip.{InStrip, in-or-none, strip-small, column-along}
 use Rattle.draw.specs.Touch.{touched}
 use Rattle.draw.specs.Draw.{drawRefusal}

@@ -1,6 +1,6 @@
 -- A line is asked about by the library as it is taken, and every other kind is refused.
 use mathlib.Core.Bool.{true, false, _||_}
-use mathlib.Core.Path.{_≡_, refl}
+use mathlib.Core.Path.{_≡_}
 use mathlib.Core.Logic.{⊎-elim}
 use Prim.Native.Nat.{ℕ, _≤_, _<_}
 use native.Mathlib.Omega.{arith}

@@ -1,12 +1,11 @@
 -- The edge only rises: before the first column that has come to a rise it is below it, and from there on it is not.
-use mathlib.Core.Path.{_≡_}
-use Prim.Native.Nat.{ℕ, _+_, _-_, _*_, _≤_, _<_}
+use Prim.Native.Nat.{ℕ, _+_, _-_, _≤_}
 use native.Mathlib.Nat.{mul-le-mul}
 use native.Mathlib.Omega.{arith}
 use Rattle.numbers.specs.inner.Offset.{origin}
 use Rattle.coverage.specs.inner.Rows.{Reaching, edgeAt}
 use Rattle.coverage.specs.declared.line.Frame.{Frame}
-use Rattle.lines.specs.inner.Columns.{PartFits, Part, edgeIn}
+use Rattle.lines.specs.inner.Columns.{PartFits, Part}
 use borrow.Author.Needs.{needs}
 use Rattle.lines.proofs.columns.part_of.Statement.{statement}
 use Rattle.lines.proofs.columns.part_of.Tie as tie
