@@ -1,4 +1,5 @@
--- The bound holds, first for any scale of levels and then for the levels themselves.
+-- The bound holds, first for any scale on which bytes have places and then in light.
 pub mod Fractions
 pub mod Bound
-pub mod Levels
+pub mod Lights
+pub mod Codes

@@ -1,8 +1,9 @@
--- One pixel under the shapes that touch it: its byte, its exact blend, and the bound on how far the two are apart (R10.3).
+-- One pixel under the shapes that touch it: its byte, its exact blend in light, and the bound on how far the byte's light is from that (R10.3).
 use mathlib.Core.List.{List, [], _∷_}
 use Prim.Native.Nat.{ℕ, _+_, _*_, _-_}
 use Rattle.numbers.specs.Fraction.{Frac, _over_, _⊕_}
-use Rattle.page.specs.Blend.{blend}
+use Rattle.lights.specs.Lights.{lightOf, widestGap, lightSpan}
+use Rattle.lights.specs.Blend.{blend}
 
 -- a whole number as a fraction
 abbrev pub whole : ℕ → Frac
@@ -27,25 +28,21 @@ after f a [] = a
 after f a (t ∷ ts) = after f (f a t) ts
 
 -- the byte u, blended by each touch with the coverage that is drawn
-unfoldable pub byteAfter : ℕ → List Touch → ℕ
-byteAfter = after (λ u t. blend u (t .level) (t .drawn .num) (t .drawn .den))
+unfoldable pub byteAfter : List ℕ → ℕ → List Touch → ℕ
+byteAfter lights = after (λ u t. blend lights u (t .level) (t .drawn .num) (t .drawn .den))
 
 -- with c = n over d, the fraction e becomes (e·(d − n) + v·n) over d, which is not rounded
 unfoldable pub mix : Frac → ℕ → Frac → Frac
 mix e v c = (e .num * (c .den - c .num) + v * c .num * e .den) over (e .den * c .den)
 
--- the exact blend: e, mixed by each touch with the exact coverage
-unfoldable pub exactAfter : Frac → List Touch → Frac
-exactAfter = after (λ e t. mix e (t .level) (t .exact))
+-- the exact blend, in light: e, mixed with the light of each touch's level by the exact coverage
+unfoldable pub exactAfter : List ℕ → Frac → List Touch → Frac
+exactAfter lights = after (λ e t. mix e (lightOf lights (t .level)) (t .exact))
 
--- half a level: what one rounding costs at most
-unfoldable pub half : Frac
-half = 1 over 2
+-- half the widest gap between neighbouring lights: what picking one code costs at most
+unfoldable pub halfGap : List ℕ → Frac
+halfGap lights = widestGap lights over 2
 
--- how far two levels can be apart
-unfoldable pub span : ℕ
-span = 255
-
--- half for each touch, and span times what its coverage is off
-unfoldable pub boundOf : List Touch → Frac
-boundOf = after (λ b t. b ⊕ (half ⊕ times span (t .off))) (whole 0)
+-- half the widest gap for each touch, and the span of the lights times what its coverage is off
+unfoldable pub boundOf : List ℕ → List Touch → Frac
+boundOf lights = after (λ b t. b ⊕ (halfGap lights ⊕ times (lightSpan lights) (t .off))) (whole 0)

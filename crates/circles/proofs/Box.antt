@@ -15,7 +15,7 @@ use Rattle.page.proofs.Drawn.{drawn-none, drawn-ext}
 use Rattle.coverage.specs.Circle.{heightOf}
 use Rattle.coverage.specs.inner.Circle.{apart}
 use Rattle.coverage.proofs.Height.{height-most, height-falls, height-rises}
-use Rattle.circles.specs.inner.Row.{at, betweenOn, Heights, Circles, Reached, Placed, boxed}
+use Rattle.circles.specs.inner.Row.{at, betweenOn, Heights, Circles, Reached, Inked, Placed, boxed}
 use Rattle.circles.specs.declared.Ring.{Ring}
 use Rattle.circles.proofs.Chords.{between-far}
 use Rattle.page.proofs.Clamp.{clamped-low, clamped-high, clamped-rises, before-clamped, from-clamped, between-clamped}
@@ -84,8 +84,8 @@ module _ (view : View) (ring : Ring) {size : ℕ} (law : Lawful view size) where
       near : (c x : ℕ) → (c - R ≤ x) × (x < c + R) → apart c x < R
       near c x b = apart-near c R x (b .0) (b .1)
 
-  pub boxed-placed : ring .cx ≤ offsetMost → ring .cy ≤ offsetMost → Placed box size ring
-  boxed-placed c d = record { lawful = boxed-lawful; near = boxed-near; across = c; down = d }
+  pub boxed-placed : {palette : List ℕ} → Inked palette ring → ring .cx ≤ offsetMost → ring .cy ≤ offsetMost → Placed palette box size ring
+  boxed-placed k c d = record { inked = k; lawful = boxed-lawful; near = boxed-near; across = c; down = d }
 
   module _ (Z : ℕ → ℕ) where
     boxed-same : (x y : ℕ) → inView box (betweenOn (heightOf R) Z ring) x y ≡ inView view (betweenOn (heightOf R) Z ring) x y

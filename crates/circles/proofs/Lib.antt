@@ -5,3 +5,4 @@ pub mod Row
 pub mod Box
 pub mod Shape
 pub mod Mirrored
+pub mod Pair

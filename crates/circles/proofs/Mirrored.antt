@@ -1,20 +1,20 @@
--- Laws of pixels that mirror each other about the centre.
-use mathlib.Core.Path.{_≡_, sym, ap, ap₂, _∙_}
+-- Laws of the two sides of a row and of the four quarters of a ring.
+use mathlib.Core.Path.{_≡_, sym, _∙_}
 use mathlib.Core.Logic.{_⊎_, inl, inr, ⊎-elim}
 use mathlib.Core.List.{List}
-use Prim.Native.Nat.{ℕ, _+_, _-_, _*_, _≤_, _<_}
+use Prim.Native.Nat.{ℕ, _+_, _-_, _≤_, _<_}
 use native.Mathlib.Omega.{arith}
-use lib.ListN.{length}
 use Rattle.numbers.specs.inner.Offset.{origin}
 use Rattle.numbers.proofs.Order.{lt-or-le, eq-or-ne}
-use Rattle.page.specs.inner.Paint.{touch, clipped, Lawful, Drawn, Filled}
+use Rattle.page.specs.inner.Paint.{clipped}
+use Rattle.lights.specs.inner.Palette.{lightsIn}
 use Rattle.page.specs.inner.Ink.{inkOf}
 use Rattle.page.specs.declared.View.{View}
-use Rattle.page.proofs.Clip.{Inside, Outside, left-of, right-of, above, below, in-or-out, clip-in, clip-out, clip-ext, clip-shrink, clip-zero, Either, Join, clip-columns, clip-rows}
-use Rattle.page.proofs.Drawn.{drawn-ext, drawn-join, drawn-one, drawn-length}
+use Rattle.page.proofs.Clip.{Inside, Outside, left-of, right-of, above, below, in-or-out, clip-in, clip-out, clip-shrink, clip-zero, Either, Join, clip-columns, clip-rows}
+use Rattle.page.proofs.Drawn.{drawn-ext}
 use Rattle.coverage.specs.inner.Circle.{apart}
-use Rattle.circles.specs.inner.Row.{between, betweenOn, Heights, Measured, RingDrawn}
-use Rattle.circles.specs.inner.Mirrored.{dotted, paired, Sides, rowSides, betweenIn, SidesDrawn, FilledSides, Quarters, Enclosed, quartered, QuartersDrawn}
+use Rattle.circles.specs.inner.Row.{Inked, between, betweenOn, Heights, Measured, RingDrawn}
+use Rattle.circles.specs.inner.Mirrored.{Sides, rowSides, betweenIn, SidesDrawn, FilledSides, Quarters, Enclosed, quartered, QuartersDrawn}
 use Rattle.circles.specs.declared.Ring.{Ring}
 use Rattle.circles.specs.declared.cover.Widths.{Widths}
 use Rattle.circles.proofs.Chords.{between-far}
@@ -24,119 +24,11 @@ use Rattle.circles.proofs.Row.{whole-ink}
 pub join-swap : {n₁ n₂ n : ℕ → ℕ → ℕ} → Join n₁ n₂ n → Join n₂ n₁ n
 join-swap j x y = ⊎-elim inr inl (j x y)
 
--- ---- the two pixels of a row at one distance
-
-module _ {view : View} {size : ℕ} {ring : Ring} (law : Lawful view size) (n : ℕ → ℕ → ℕ) (y a : ℕ) (sides : Sides view ring y (a + 1)) where
-  -- the column of the centre, and those of the two pixels
-  abbrev c : ℕ
-  c = ring .cx - origin
-
-  abbrev right : ℕ
-  right = c + a
-
-  abbrev left : ℕ
-  left = c - a - 1
-
-  -- one of the two
-  abbrev one : ℕ → ℕ → ℕ → ℕ
-  one x = clipped x y (x + 1) (y + 1) (λ _ _. n a y)
-
-  one-is : (x : ℕ) → one x x y ≡ n a y
-  one-is x = clip-in x y (x + 1) (y + 1) (λ _ _. n a y) x y (omega arith)
-
-  one-drawn : (ink : ℕ → ℕ → ℕ) (x : ℕ) (l : List ℕ) → x < view .w → size ≡ length l
-      → Drawn (view .w) (view .h) ink (one x) l (dotted ink (n a y) (y * view .w + x) l) (touch (n a y))
-  one-drawn ink x l h e =
-      rw (one-is x) at
-      (drawn-one (view .w) (view .h) ink x y (one x) l h (omega (arith, sides .row .1, law .y-most)) (omega (arith, law .room))
-      (λ x′ y′ ne. clip-out x y (x + 1) (y + 1) _ x′ y′ (other x′ y′ ne (lt-or-le x′ x) (lt-or-le x x′) (lt-or-le y′ y))))
-    where
-      other : (x′ y′ : ℕ) → ((x′ ≡ x) × (y′ ≡ y) → ⊥) → (x′ < x) ⊎ (x ≤ x′) → (x < x′) ⊎ (x′ ≤ x) → (y′ < y) ⊎ (y ≤ y′)
-          → Outside x y (x + 1) (y + 1) x′ y′
-      other x′ y′ ne (inl h) _ _ = left-of h
-      other x′ y′ ne (inr h) (inl k) _ = right-of (omega arith)
-      other x′ y′ ne (inr h) (inr k) (inl q) = above q
-      other x′ y′ ne (inr h) (inr k) (inr q) = below (later (eq-or-ne y′ y))
-        where
-          later : (y′ ≡ y) ⊎ (y′ ≡ y → ⊥) → y + 1 ≤ y′
-          later (inl e) = absurd (ne (omega arith, e))
-          later (inr d) = omega arith
-
-  -- a pixel at distance a is one of the two
-  mirror-of : (x : ℕ) → apart (ring .cx) (x + origin) ≡ a → (x ≡ right) ⊎ (x ≡ left)
-  mirror-of x e = ⊎-elim (λ h. inr (omega arith)) (λ h. inl (omega arith)) (lt-or-le (x + origin) (ring .cx))
-
-  -- a pixel of the row at distance a
-  here : (x z : ℕ) → apart (ring .cx) (x + origin) ≡ a → z ≡ y → rowSides ring n y a (a + 1) x z ≡ n a y
-  here x z e f = rw (e, f) (clip-in a y (a + 1) (y + 1) n a y (omega arith))
-
-  -- and one that is none of the two
-  elsewhere : (x z : ℕ) → Outside right y (right + 1) (y + 1) x z → Outside left y (left + 1) (y + 1) x z → rowSides ring n y a (a + 1) x z ≡ 0
-  elsewhere x z o p =
-      let d = apart (ring .cx) (x + origin) in
-      clip-out a y (a + 1) (y + 1) n d z (none (lt-or-le z y) (lt-or-le y z) (lt-or-le d a) (lt-or-le a d))
-    where
-      column : (k : ℕ) → Outside k y (k + 1) (y + 1) x z → z ≡ y → (x ≡ k → ⊥)
-      column k (left-of h) e f = omega arith
-      column k (right-of h) e f = omega arith
-      column k (above h) e f = omega arith
-      column k (below h) e f = omega arith
-
-      none : (z < y) ⊎ (y ≤ z) → (y < z) ⊎ (z ≤ y) → (apart (ring .cx) (x + origin) < a) ⊎ (a ≤ apart (ring .cx) (x + origin))
-          → (a < apart (ring .cx) (x + origin)) ⊎ (apart (ring .cx) (x + origin) ≤ a)
-          → Outside a y (a + 1) (y + 1) (apart (ring .cx) (x + origin)) z
-      none (inl h) _ _ _ = above h
-      none (inr h) (inl k) _ _ = below (omega arith)
-      none (inr h) (inr k) (inl p) _ = left-of p
-      none (inr h) (inr k) (inr p) (inl q) = right-of (omega arith)
-      none (inr h) (inr k) (inr p′) (inr q) =
-          let e : z ≡ y = omega arith in
-          absurd (⊎-elim (column right o e) (column left p e) (mirror-of x (omega arith)))
-
-  both : Join (one right) (one left) (rowSides ring n y a (a + 1))
-  both x z = go (in-or-out right y (right + 1) (y + 1) x z) (in-or-out left y (left + 1) (y + 1) x z)
-    where
-      go : Inside right y (right + 1) (y + 1) x z ⊎ Outside right y (right + 1) (y + 1) x z
-          → Inside left y (left + 1) (y + 1) x z ⊎ Outside left y (left + 1) (y + 1) x z
-          → Either (one right x z) (one left x z) (rowSides ring n y a (a + 1) x z)
-      go (inl i) k =
-          inr (
-            clip-out left y (left + 1) (y + 1) _ x z (right-of (omega (arith, sides .left))),
-            clip-in right y (right + 1) (y + 1) _ x z i ∙ sym (here x z (omega (arith, sides .left)) (omega arith)),
-          )
-      go (inr o) (inl i) =
-          inl (
-            clip-out right y (right + 1) (y + 1) _ x z o,
-            clip-in left y (left + 1) (y + 1) _ x z i ∙ sym (here x z (omega (arith, sides .left)) (omega arith)),
-          )
-      go (inr o) (inr p) = inl (clip-out right y (right + 1) (y + 1) _ x z o, clip-out left y (left + 1) (y + 1) _ x z p ∙ sym (elsewhere x z o p))
-
-  pub pair-drawn : (ink : ℕ → ℕ → ℕ) (l : List ℕ) → size ≡ length l
-      → Drawn (view .w) (view .h) ink (rowSides ring n y a (a + 1)) l
-      (paired ink (n a y) (y * view .w + c + a) (y * view .w + c - a - 1) l) (2 * touch (n a y))
-  pair-drawn ink l e =
-      let k : y * view .w + c + a ≡ y * view .w + right = omega arith in
-      let j : y * view .w + c - a - 1 ≡ y * view .w + left = omega (arith, sides .left) in
-      let first = one-drawn ink right l (omega (arith, sides .right, law .x-most)) e in
-      let second = one-drawn ink left (dotted ink (n a y) (y * view .w + right) l) (omega (arith, sides .right, law .x-most)) (e ∙ sym (drawn-length first)) in
-      let t : touch (n a y) + touch (n a y) ≡ 2 * touch (n a y) = omega arith in
-      rw (k, j, ← t) (drawn-join (rowSides ring n y a (a + 1)) both first second)
-
 -- ---- a row by distances from the centre's column
 
 -- a clip that has what is nearer than d has what is nearer still
 pub sides-nearer : {view : View} {ring : Ring} {y d : ℕ} (e : ℕ) → e ≤ d → Sides view ring y d → Sides view ring y e
 sides-nearer e h s = record { row = s .row; left = omega (arith, s .left); right = omega (arith, s .right) }
-
--- the two pixels at distance a have the same coverage
-pub pair-same : {w h t : ℕ} {ink : ℕ → ℕ → ℕ} {l m : List ℕ} (ring : Ring) (f : ℕ → ℕ → ℕ) (y a n : ℕ) → n ≡ f a y
-    → Drawn w h ink (rowSides ring (λ _ _. n) y a (a + 1)) l m t
-    → Drawn w h ink (rowSides ring f y a (a + 1)) l m t
-pair-same ring f y a n e =
-    drawn-ext (rowSides ring f y a (a + 1)) (λ x z. clip-ext a y (a + 1) (y + 1) (λ _ _. n) f same (apart (ring .cx) (x + origin)) z)
-  where
-    same : (u v : ℕ) → Inside a y (a + 1) (y + 1) u v → n ≡ f u v
-    same u v i = e ∙ ap₂ f (omega arith) (omega arith)
 
 -- cut at distance a
 pub sides-cut : (ring : Ring) (n : ℕ → ℕ → ℕ) (y p q a : ℕ) → p ≤ a → a ≤ q → Join (rowSides ring n y p a) (rowSides ring n y a q) (rowSides ring n y p q)
@@ -228,11 +120,11 @@ sides-row {view} ring Y Z y p q sides near far = drawn-ext (clipped (view .x0) y
         (in-or-out (view .x0) y (view .x1) (y + 1) x z)
 
 -- the whole part of a measured row, filled, is drawn
-pub filled-drawn : {l m : List ℕ} {t : ℕ} (view : View) (ring : Ring) (Y Z : ℕ → ℕ) (R b y : ℕ) (row : Widths) → b ≡ apart (ring .cy) (y + origin)
+pub filled-drawn : {palette l m : List ℕ} {t : ℕ} (view : View) (ring : Ring) (Y Z : ℕ → ℕ) (R b y : ℕ) (row : Widths) → Inked palette ring → b ≡ apart (ring .cy) (y + origin)
     → Measured Y Z R b row
     → FilledSides view ring y (row .inner) (row .whole) l m t
-    → SidesDrawn (inkOf (ring .level) 512) view ring Y Z y (row .inner) (row .whole) l m t
-filled-drawn view ring Y Z R b y row e m f = f (inkOf (ring .level) 512) (betweenIn Y Z ring) 512 (omega arith) (whole-ink (ring .level)) (rw e at m .whole-all)
+    → SidesDrawn (inkOf (lightsIn palette) (ring .level) 512) view ring Y Z y (row .inner) (row .whole) l m t
+filled-drawn {palette} view ring Y Z R b y row k e m f = f (inkOf (lightsIn palette) (ring .level) 512) (betweenIn Y Z ring) 512 (omega arith) (whole-ink k) (rw e at m .whole-all)
 
 -- ---- the two rows at one distance
 

@@ -1,34 +1,40 @@
 -- Laws of a row that is drawn in stretches.
-use mathlib.Core.Path.{_≡_, sym, subst}
-use mathlib.Core.Logic.{_⊎_, ⊎-elim}
+use mathlib.Core.Path.{_≡_, refl, sym, ap, ap₂, _∙_, subst}
+use mathlib.Core.Logic.{⊎-elim}
 use mathlib.Core.List.{List}
 use Prim.Native.Nat.{ℕ, _+_, _-_, _≤_, _<_}
 use native.Mathlib.Omega.{arith}
-use lib.ListN.{length}
+use lib.ListN.{length, getD, set, length-set}
 use Rattle.numbers.specs.inner.Offset.{origin}
-use Rattle.page.specs.inner.Paint.{clipped, Lawful, Drawn, clamped}
+use Rattle.numbers.specs.Sum.{sumTo}
+use Rattle.numbers.proofs.Sum.{sum-none, sum-more, sum-le}
+use Rattle.page.specs.Page.{over}
+use Rattle.page.specs.inner.Paint.{dot, touch, clipped, Lawful, Drawn, clamped}
 use Rattle.page.specs.inner.Ink.{inkOf}
 use Rattle.page.specs.declared.View.{View}
-use Rattle.page.proofs.Blend.{blend-whole}
+use Rattle.lights.specs.inner.Palette.{lightsIn}
+use Rattle.lights.proofs.Blend.{blend-whole}
+use Rattle.lights.proofs.LightsIn.{lights-fit}
 use Rattle.page.proofs.Clip.{clip-columns}
 use Rattle.page.proofs.Drawn.{drawn-join, drawn-length, drawn-row}
+use Rattle.page.proofs.Over.{upTo, upTo-none, upTo-store, upTo-read, upTo-all}
 use Rattle.coverage.specs.inner.Circle.{apart}
-use Rattle.circles.specs.inner.Row.{betweenOn, Ready, Measured, Band, RingDrawn, leftOf, rightOf}
+use Rattle.circles.specs.inner.Row.{between, betweenOn, Inked, Ready, Measured, Band, RingDrawn, leftOf, rightOf}
 use Rattle.circles.specs.declared.Ring.{Ring}
 use Rattle.circles.specs.declared.cover.Widths.{Widths}
 use Rattle.page.proofs.Clamp.{clamped-low, clamped-high, clamped-rises, before-clamped, from-clamped, between-clamped}
 use Rattle.circles.proofs.Apart.{apart-near, apart-left, apart-right}
 
 -- a page that was drawn on stands ready as before
-pub ready-after : {w h : ℕ} {ink n : ℕ → ℕ → ℕ} {l m : List ℕ} {t : ℕ} {view : View} {ring : Ring} {outer inner : List ℕ}
+pub ready-after : {w h : ℕ} {ink n : ℕ → ℕ → ℕ} {l m : List ℕ} {t : ℕ} {palette : List ℕ} {view : View} {ring : Ring} {outer inner : List ℕ}
     → Drawn w h ink n l m t
-    → Ready view (length l) ring outer inner
-    → Ready view (length m) ring outer inner
-ready-after {view = view} {ring} {outer} {inner} d = subst (λ (k : ℕ). Ready view k ring outer inner) (sym (drawn-length d))
+    → Ready palette view (length l) ring outer inner
+    → Ready palette view (length m) ring outer inner
+ready-after {palette = palette} {view} {ring} {outer} {inner} d = subst (λ (k : ℕ). Ready palette view k ring outer inner) (sym (drawn-length d))
 
 -- a whole blend leaves the level
-pub whole-ink : (v u : ℕ) → inkOf v 512 512 u ≡ v
-whole-ink v u = blend-whole u v 512 (omega arith)
+pub whole-ink : {palette : List ℕ} {ring : Ring} → Inked palette ring → (u : ℕ) → inkOf (lightsIn palette) (ring .level) 512 512 u ≡ ring .level
+whole-ink {palette} {ring} k u = blend-whole (lightsIn palette) (lights-fit palette (k .palette-is)) u (ring .level) 512 (k .level-most) (omega arith)
 
 -- a row whose widths are known
 module _ {Y Z : ℕ → ℕ} {view : View} {size : ℕ} (ring : Ring) {row : Widths} (y : ℕ)
@@ -103,3 +109,53 @@ module _ {Y Z : ℕ → ℕ} {view : View} {size : ℕ} (ring : Ring) {row : Wid
         (clip-columns (view .x0) y (view .x1) (y + 1) c n (clamped-low _ _ _ clip) (clamped-high _ _ _))
         (drawn-row n (view .x0) c _ _ y (clamped-low _ _ _ clip) (rises _ _ (omega arith)) (λ x p q. ⊎-elim (none-left x p) (λ z. none-middle x z q)) d)
         (drawn-row n c (view .x1) c _ y (omega arith) (clamped-high _ _ _) (λ x p q. ⊎-elim (λ z. absurd (omega arith)) (none-right x q)) e)
+
+-- ---- a stretch that is blended byte by byte
+
+-- the coverage of byte i of a stretch whose first pixel is in column x of the row at distance b
+abbrev pub inStretch : (ℕ → ℕ) → (ℕ → ℕ) → Ring → ℕ → ℕ → ℕ → ℕ
+inStretch Y Z ring x b i = between Y Z (apart (ring .cx) (x + i + origin)) b
+
+-- its coverage, by the distance from the centre's column
+pub in-stretch : {c d : ℕ} (Y Z : ℕ → ℕ) (ring : Ring) (x b i : ℕ) → d ≡ apart (ring .cx) (x + i + origin) → c ≡ between Y Z d b → c ≡ inStretch Y Z ring x b i
+in-stretch Y Z ring x b i e is = is ∙ ap (λ (d : ℕ). between Y Z d b) e
+
+-- the first i bytes are blended by an ink, byte k at coverage n k, the rest are as at entry, and the count is that of the first i
+pub record BlendedTo (ink : ℕ → ℕ → ℕ) (n : ℕ → ℕ) (l m : List ℕ) (touched i : ℕ) : Type 0 where
+  pub most : i ≤ length l
+  pub size : length m ≡ length l
+  pub bytes : m ≡ over (upTo i (λ k. dot ink (n k))) l
+  pub count : touched ≡ sumTo i (λ k. touch (n k))
+
+module _ {ink : ℕ → ℕ → ℕ} {n : ℕ → ℕ} {l : List ℕ} where
+  -- at the first byte
+  pub stretch-start : BlendedTo ink n l l 0 0
+  stretch-start = record { most = omega arith; size = refl; bytes = upTo-none _ l; count = sym (sum-none _) }
+
+  -- no more are touched than there are
+  pub stretch-few : {m : List ℕ} {touched i : ℕ} → BlendedTo ink n l m touched i → touched ≤ i
+  stretch-few {i = i} done = omega (arith, done .count, sum-le i 1 (λ k. touch (n k)) (λ k. omega arith))
+
+  -- a turn: byte i is read, blended at its coverage c and stored
+  pub stretch-turn : {m : List ℕ} {touched i c v t : ℕ} → BlendedTo ink n l m touched i → i < length l
+      → c ≡ n i
+      → v ≡ dot ink c (getD m i 0)
+      → t ≡ touch c
+      → BlendedTo ink n l (set m i v) (touched + t) (i + 1)
+  stretch-turn {m} {i = i} {v = v} done h here new count =
+      let f : ℕ → ℕ → ℕ = λ k. dot ink (n k) in
+      let old : getD m i 0 ≡ getD l i 0 = ap (λ (r : List ℕ). getD r i 0) (done .bytes) ∙ upTo-read f l i h in
+      record {
+        most = omega arith;
+        size = simp length-set (done .size);
+        bytes = ap (λ (r : List ℕ). set r i v) (done .bytes) ∙ upTo-store f l i v h (new ∙ ap₂ (dot ink) here old);
+        count = ap₂ _+_ (done .count) (count ∙ ap touch here) ∙ sym (sum-more i (λ k. touch (n k)));
+      }
+
+  -- at the last byte
+  pub stretch-end : {m : List ℕ} {touched i : ℕ} → BlendedTo ink n l m touched i → length l ≤ i
+      → (m ≡ over (λ k. dot ink (n k)) l) × (touched ≡ sumTo (length l) (λ k. touch (n k)))
+  stretch-end {i = i} done h = (
+    done .bytes ∙ upTo-all (λ k. dot ink (n k)) l i h,
+    done .count ∙ ap (λ (k : ℕ). sumTo k (λ k. touch (n k))) (omega (arith, done .most)),
+  )

@@ -18,21 +18,24 @@ ghost use Rattle.shapes.specs.declared.Shape.the-variants.{Disc as asDisc, Ring
 ghost use Rattle.coverage.specs.Circle.{heightOf};
 ghost use Rattle.coverage.specs.Coverage.{drawnD};
 ghost use Rattle.coverage.specs.inner.OnPage.{shapeOn};
+ghost use Rattle.lights.specs.inner.Palette.{lightsIn, Palette};
 ghost use Rattle.page.specs.inner.Ink.{inkOf};
 ghost use Rattle.page.specs.inner.Paint.{Lawful, DrawnIn};
-ghost use Rattle.circles.specs.inner.Row.{at, boxed, smallMost, Zeros, Placed, Ready, RingDrawn};
+ghost use Rattle.circles.specs.inner.Row.{at, boxed, smallMost, Zeros, Inked, Placed, Ready, RingDrawn};
 
 mod cover; // cover.rt: coverage by the distances from the centre
 mod mirror; // mirror.rt: rows of which the clip has both sides
+mod pairs; // pairs.rt: pixels on both sides, blended distance by distance
 mod rows; // rows.rt: rows drawn in stretches
 
-// The offsets of the centre, the radii of the two circles, and the level. A disc has a hole of radius 0.
+// The offsets of the centre, the radii of the two circles, the level, and the scale of the blends over 512. A disc has a hole of radius 0.
 pub(crate) struct Ring {
     pub cx: u64,
     pub cy: u64,
     pub radius: u64,
     pub hole: u64,
     pub level: u8,
+    pub m: u64,
 }
 
 // Circles up to this radius hold their heights in a short array.
@@ -68,63 +71,71 @@ fn box_of(view: View, ring: Ring) -> View
 }
 
 // Draws a ring whose heights are held, within a clip that is cut down to its box.
-fn draw_held(page: &mut [u8], view: View, ring: Ring, outer: &[u32], inner: &[u32]) -> u64
-    requires { ⌜ Ready view (length (now page)) ring (now outer) (now inner) ⌝ }
-    ensures { λ t. ⌜ RingDrawn (inkOf (ring .level) 512) view ring (at (now (outer .entry))) (at (now (inner .entry)))
+fn draw_held(
+    page: &mut [u8],
+    palette: &[u16],
+    view: View,
+    ring: Ring,
+    outer: &[u32],
+    inner: &[u32],
+) -> u64
+    requires { ⌜ Ready (now palette) view (length (now page)) ring (now outer) (now inner) ⌝ }
+    ensures { λ t. ⌜ RingDrawn (inkOf (lightsIn (now (palette .entry))) (ring .level) 512) view ring (at (now (outer .entry))) (at (now (inner .entry)))
         (view .x0) (view .y0) (view .x1) (view .y1) (now (page .entry)) (now (page .exit)) t ⌝ }
 {
     if encloses(view.x0, view.x1, ring.cx, ring.radius) {
         if encloses(view.y0, view.y1, ring.cy, ring.radius) {
-            return mirror::draw_enclosed(page, view, ring, outer, inner);
+            return mirror::draw_enclosed(page, palette, view, ring, outer, inner);
         }
     }
-    rows::draw_rows(page, view, ring, outer, inner)
+    rows::draw_rows(page, palette, view, ring, outer, inner)
 }
 
 // Works out the heights of a ring in two lent arrays of zeros and draws it, within a clip that is cut down to its box.
 fn draw_by_heights(
     page: &mut [u8],
+    palette: &[u16],
     view: View,
     ring: Ring,
     outer: &mut [u32],
     inner: &mut [u32],
 ) -> u64
-    requires { ⌜ Placed view (length (now page)) ring × (ring .hole ≤ ring .radius) × (ring .radius ≤ radiusMost) ⌝ }
+    requires { ⌜ Placed (now palette) view (length (now page)) ring × (ring .hole ≤ ring .radius) × (ring .radius ≤ radiusMost) ⌝ }
     requires { ⌜ Zeros (now outer) (ring .radius) × Zeros (now inner) (ring .hole) ⌝ }
-    ensures { λ t. ⌜ RingDrawn (inkOf (ring .level) 512) view ring (heightOf (ring .radius)) (heightOf (ring .hole))
+    ensures { λ t. ⌜ RingDrawn (inkOf (lightsIn (now (palette .entry))) (ring .level) 512) view ring (heightOf (ring .radius)) (heightOf (ring .hole))
         (view .x0) (view .y0) (view .x1) (view .y1) (now (page .entry)) (now (page .exit)) t ⌝ }
 {
     heights(outer, ring.radius);
     heights(inner, ring.hole);
-    draw_held(page, view, ring, outer, inner)
+    draw_held(page, palette, view, ring, outer, inner)
 }
 
 // A small ring takes short arrays, so that the largest radius costs it nothing.
-fn draw_small(page: &mut [u8], view: View, ring: Ring) -> u64
-    requires { ⌜ Placed view (length (now page)) ring × (ring .hole ≤ ring .radius) × (ring .radius ≤ smallMost) ⌝ }
-    ensures { λ t. ⌜ RingDrawn (inkOf (ring .level) 512) view ring (heightOf (ring .radius)) (heightOf (ring .hole))
+fn draw_small(page: &mut [u8], palette: &[u16], view: View, ring: Ring) -> u64
+    requires { ⌜ Placed (now palette) view (length (now page)) ring × (ring .hole ≤ ring .radius) × (ring .radius ≤ smallMost) ⌝ }
+    ensures { λ t. ⌜ RingDrawn (inkOf (lightsIn (now (palette .entry))) (ring .level) 512) view ring (heightOf (ring .radius)) (heightOf (ring .hole))
         (view .x0) (view .y0) (view .x1) (view .y1) (now (page .entry)) (now (page .exit)) t ⌝ }
 {
     let mut outer = [0u32; SMALL_HEIGHTS];
     let mut inner = [0u32; SMALL_HEIGHTS];
-    draw_by_heights(page, view, ring, &mut outer, &mut inner)
+    draw_by_heights(page, palette, view, ring, &mut outer, &mut inner)
 }
 
 // Any other takes arrays for the greatest radius.
-fn draw_large(page: &mut [u8], view: View, ring: Ring) -> u64
-    requires { ⌜ Placed view (length (now page)) ring × (ring .hole ≤ ring .radius) × (ring .radius ≤ radiusMost) ⌝ }
-    ensures { λ t. ⌜ RingDrawn (inkOf (ring .level) 512) view ring (heightOf (ring .radius)) (heightOf (ring .hole))
+fn draw_large(page: &mut [u8], palette: &[u16], view: View, ring: Ring) -> u64
+    requires { ⌜ Placed (now palette) view (length (now page)) ring × (ring .hole ≤ ring .radius) × (ring .radius ≤ radiusMost) ⌝ }
+    ensures { λ t. ⌜ RingDrawn (inkOf (lightsIn (now (palette .entry))) (ring .level) 512) view ring (heightOf (ring .radius)) (heightOf (ring .hole))
         (view .x0) (view .y0) (view .x1) (view .y1) (now (page .entry)) (now (page .exit)) t ⌝ }
 {
     let mut outer = [0u32; HEIGHTS];
     let mut inner = [0u32; HEIGHTS];
-    draw_by_heights(page, view, ring, &mut outer, &mut inner)
+    draw_by_heights(page, palette, view, ring, &mut outer, &mut inner)
 }
 
 // Draws what lies between the circles of a ring.
-fn draw_between(page: &mut [u8], view: View, ring: Ring) -> u64
-    requires { ⌜ Lawful view (length (now page)) × (ring .cx ≤ offsetMost) × (ring .cy ≤ offsetMost) × (ring .hole ≤ ring .radius) × (ring .radius ≤ radiusMost) ⌝ }
-    ensures { λ t. ⌜ RingDrawn (inkOf (ring .level) 512) view ring (heightOf (ring .radius)) (heightOf (ring .hole))
+fn draw_between(page: &mut [u8], palette: &[u16], view: View, ring: Ring) -> u64
+    requires { ⌜ Inked (now palette) ring × Lawful view (length (now page)) × (ring .cx ≤ offsetMost) × (ring .cy ≤ offsetMost) × (ring .hole ≤ ring .radius) × (ring .radius ≤ radiusMost) ⌝ }
+    ensures { λ t. ⌜ RingDrawn (inkOf (lightsIn (now (palette .entry))) (ring .level) 512) view ring (heightOf (ring .radius)) (heightOf (ring .hole))
         (view .x0) (view .y0) (view .x1) (view .y1) (now (page .entry)) (now (page .exit)) t ⌝ }
 {
     let part = box_of(view, ring);
@@ -135,15 +146,15 @@ fn draw_between(page: &mut [u8], view: View, ring: Ring) -> u64
         return 0;
     }
     if ring.radius <= SMALL_MOST {
-        return draw_small(page, part, ring);
+        return draw_small(page, palette, part, ring);
     }
-    draw_large(page, part, ring)
+    draw_large(page, palette, part, ring)
 }
 
 // Draws a disc within the view's clip; hands back how many pixels it touched.
-pub fn draw_disc(page: &mut [u8], view: View, disc: shapes::Disc, level: u8) -> u64
-    requires { ⌜ Lawful view (length (now page)) × (shapeRefusal (asDisc disc) ≡ 0) ⌝ }
-    ensures { λ t. ⌜ DrawnIn view (inkOf level (drawnD (asDisc disc))) (shapeOn (asDisc disc)) (now (page .entry)) (now (page .exit)) t ⌝ }
+pub fn draw_disc(page: &mut [u8], palette: &[u16], view: View, disc: shapes::Disc, level: u8) -> u64
+    requires { ⌜ Palette (now palette) × Lawful view (length (now page)) × (shapeRefusal (asDisc disc) ≡ 0) ⌝ }
+    ensures { λ t. ⌜ DrawnIn view (inkOf (lightsIn (now (palette .entry))) level (drawnD (asDisc disc))) (shapeOn (asDisc disc)) (now (page .entry)) (now (page .exit)) t ⌝ }
 {
     let c = shapes::point_of(disc.x, disc.y);
     let ring = Ring {
@@ -152,14 +163,15 @@ pub fn draw_disc(page: &mut [u8], view: View, disc: shapes::Disc, level: u8) -> 
         radius: disc.radius as u64,
         hole: 0,
         level,
+        m: lights::scale_of(palette, 512),
     };
-    draw_between(page, view, ring)
+    draw_between(page, palette, view, ring)
 }
 
 // Draws a ring within the view's clip; hands back how many pixels it touched.
-pub fn draw_ring(page: &mut [u8], view: View, ring: shapes::Ring, level: u8) -> u64
-    requires { ⌜ Lawful view (length (now page)) × (shapeRefusal (asRing ring) ≡ 0) ⌝ }
-    ensures { λ t. ⌜ DrawnIn view (inkOf level (drawnD (asRing ring))) (shapeOn (asRing ring)) (now (page .entry)) (now (page .exit)) t ⌝ }
+pub fn draw_ring(page: &mut [u8], palette: &[u16], view: View, ring: shapes::Ring, level: u8) -> u64
+    requires { ⌜ Palette (now palette) × Lawful view (length (now page)) × (shapeRefusal (asRing ring) ≡ 0) ⌝ }
+    ensures { λ t. ⌜ DrawnIn view (inkOf (lightsIn (now (palette .entry))) level (drawnD (asRing ring))) (shapeOn (asRing ring)) (now (page .entry)) (now (page .exit)) t ⌝ }
 {
     let c = shapes::point_of(ring.x, ring.y);
     let between = Ring {
@@ -168,6 +180,7 @@ pub fn draw_ring(page: &mut [u8], view: View, ring: shapes::Ring, level: u8) -> 
         radius: ring.radius as u64,
         hole: (ring.radius - ring.width) as u64,
         level,
+        m: lights::scale_of(palette, 512),
     };
-    draw_between(page, view, between)
+    draw_between(page, palette, view, between)
 }

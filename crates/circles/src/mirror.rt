@@ -1,64 +1,24 @@
 // Rows of a ring of which the clip has both sides: pixels that mirror each other about the centre are blended by one coverage.
 use super::Ring;
 use super::cover::Widths;
-use super::cover::covered_between;
 use super::cover::measure;
+use super::pairs::inner_quarters;
+use super::pairs::inner_sides;
+use super::pairs::outer_quarters;
+use super::pairs::outer_sides;
 use numbers::ORIGIN;
 use page::View;
 use page::fill_row;
 ghost use mathlib.Core.Path.{_≡_};
-ghost use Prim.Native.Nat.{_+_, _*_, _≤_, _<_};
+ghost use Prim.Native.Nat.{_+_, _≤_, _<_};
 ghost use lib.ListN.{length};
 ghost use Rattle.numbers.specs.inner.Offset.{origin};
+ghost use Rattle.lights.specs.inner.Palette.{lightsIn};
 ghost use Rattle.page.specs.inner.Ink.{inkOf};
-ghost use Rattle.page.specs.inner.Paint.{touch, Lawful, Drawn};
+ghost use Rattle.page.specs.inner.Paint.{Lawful};
 ghost use Rattle.coverage.specs.inner.Circle.{apart};
 ghost use Rattle.circles.specs.inner.Row.{at, Ready, Measured, RingDrawn};
-ghost use Rattle.circles.specs.inner.Mirrored.{rowSides, Sides, Quarters, Enclosed, FilledSides, SidesDrawn, QuartersDrawn};
-
-// Blends the two pixels of row y at distance a from the centre's column, at coverage n over 512.
-fn blend_pair(page: &mut [u8], view: View, ring: Ring, y: usize, a: u64, n: u64)
-    requires { ⌜ Lawful view (length (now page)) × Sides view ring y (a + 1) × (n ≤ 512) ⌝ }
-    ensures { λ _. ⌜ Drawn (view .w) (view .h) (inkOf (ring .level) 512) (rowSides ring (λ _ _. n) y a (a + 1))
-        (now (page .entry)) (now (page .exit)) (2 * touch n) ⌝ }
-{
-    let w = view.w;
-    let c = y * w + (ring.cx - ORIGIN) as usize;
-    let right = c + a as usize;
-    let left = c - a as usize - 1;
-    let u = page[right];
-    page[right] = page::blend_byte_512(u, ring.level, n);
-    let v = page[left];
-    page[left] = page::blend_byte_512(v, ring.level, n);
-}
-
-// Blends what of row y, at distance b, lies from to end away from the centre's column; hands back how many pixels it touched.
-fn blend_sides(
-    page: &mut [u8],
-    view: View,
-    ring: Ring,
-    outer: &[u32],
-    inner: &[u32],
-    b: u64,
-    y: usize,
-    from: u64,
-    end: u64,
-) -> u64
-    requires { ⌜ Ready view (length (now page)) ring (now outer) (now inner) × Sides view ring y end × (from ≤ end) ⌝ }
-    requires { ⌜ (b ≡ apart (ring .cy) (y + origin)) × (b < ring .radius) × (end ≤ ring .radius) ⌝ }
-    ensures { λ t. ⌜ SidesDrawn (inkOf (ring .level) 512) view ring (at (now (outer .entry))) (at (now (inner .entry)))
-        y from end (now (page .entry)) (now (page .exit)) t ⌝ }
-{
-    let mut touched: u64 = 0;
-    let mut a = from;
-    while a < end {
-        let n = covered_between(outer, inner, ring, a, b);
-        blend_pair(page, view, ring, y, a, n);
-        touched += page::touched(n);
-        a += 1;
-    }
-    2 * touched
-}
+ghost use Rattle.circles.specs.inner.Mirrored.{Sides, Quarters, Enclosed, FilledSides, QuartersDrawn};
 
 // Gives what of row y lies from to end away from the centre's column the level; hands back how many pixels it is.
 fn fill_sides(page: &mut [u8], view: View, ring: Ring, y: usize, from: u64, end: u64) -> u64
@@ -79,6 +39,7 @@ fn fill_sides(page: &mut [u8], view: View, ring: Ring, y: usize, from: u64, end:
 // Draws row y, at distance b, of which the clip has all that is covered.
 pub(crate) fn draw_sides(
     page: &mut [u8],
+    palette: &[u16],
     view: View,
     ring: Ring,
     outer: &[u32],
@@ -87,52 +48,46 @@ pub(crate) fn draw_sides(
     b: u64,
     y: usize,
 ) -> u64
-    requires { ⌜ Ready view (length (now page)) ring (now outer) (now inner) × Sides view ring y (row .outer) ⌝ }
+    requires { ⌜ Ready (now palette) view (length (now page)) ring (now outer) (now inner) × Sides view ring y (row .outer) ⌝ }
     requires { ⌜ (b ≡ apart (ring .cy) (y + origin)) × (b < ring .radius) × Measured (at (now outer)) (at (now inner)) (ring .radius) b row ⌝ }
-    ensures { λ t. ⌜ RingDrawn (inkOf (ring .level) 512) view ring (at (now (outer .entry))) (at (now (inner .entry)))
+    ensures { λ t. ⌜ RingDrawn (inkOf (lightsIn (now (palette .entry))) (ring .level) 512) view ring (at (now (outer .entry))) (at (now (inner .entry)))
         (view .x0) y (view .x1) (y + 1) (now (page .entry)) (now (page .exit)) t ⌝ }
 {
-    let edge = blend_sides(page, view, ring, outer, inner, b, y, row.whole, row.outer);
+    let edge = outer_sides(
+        page,
+        palette,
+        view,
+        ring,
+        outer,
+        inner,
+        b,
+        y,
+        row.whole,
+        row.outer,
+    );
     let solid = edge + fill_sides(page, view, ring, y, row.inner, row.whole);
     if row.inner == 0 {
         return solid;
     }
-    solid + blend_sides(page, view, ring, outer, inner, b, y, row.hole, row.inner)
-}
-
-// Blends what of rows y and z, both at distance b, lies from to end away from the centre's column.
-fn blend_quarters(
-    page: &mut [u8],
-    view: View,
-    ring: Ring,
-    outer: &[u32],
-    inner: &[u32],
-    b: u64,
-    y: usize,
-    z: usize,
-    from: u64,
-    end: u64,
-) -> u64
-    requires { ⌜ Ready view (length (now page)) ring (now outer) (now inner) × Quarters view ring b y z end × (from ≤ end) ⌝ }
-    requires { ⌜ (b < ring .radius) × (end ≤ ring .radius) ⌝ }
-    ensures { λ t. ⌜ QuartersDrawn (inkOf (ring .level) 512) view ring (at (now (outer .entry))) (at (now (inner .entry)))
-        from b end (b + 1) (now (page .entry)) (now (page .exit)) t ⌝ }
-{
-    let mut touched: u64 = 0;
-    let mut a = from;
-    while a < end {
-        let n = covered_between(outer, inner, ring, a, b);
-        blend_pair(page, view, ring, y, a, n);
-        blend_pair(page, view, ring, z, a, n);
-        touched += page::touched(n);
-        a += 1;
-    }
-    4 * touched
+    solid
+        + inner_sides(
+            page,
+            palette,
+            view,
+            ring,
+            outer,
+            inner,
+            b,
+            y,
+            row.hole,
+            row.inner,
+        )
 }
 
 // Draws rows y and z, both at distance b, of which the clip has all that is covered.
 fn draw_quarters(
     page: &mut [u8],
+    palette: &[u16],
     view: View,
     ring: Ring,
     outer: &[u32],
@@ -142,13 +97,14 @@ fn draw_quarters(
     y: usize,
     z: usize,
 ) -> u64
-    requires { ⌜ Ready view (length (now page)) ring (now outer) (now inner) × Quarters view ring b y z (row .outer) ⌝ }
+    requires { ⌜ Ready (now palette) view (length (now page)) ring (now outer) (now inner) × Quarters view ring b y z (row .outer) ⌝ }
     requires { ⌜ (b < ring .radius) × Measured (at (now outer)) (at (now inner)) (ring .radius) b row ⌝ }
-    ensures { λ t. ⌜ QuartersDrawn (inkOf (ring .level) 512) view ring (at (now (outer .entry))) (at (now (inner .entry)))
+    ensures { λ t. ⌜ QuartersDrawn (inkOf (lightsIn (now (palette .entry))) (ring .level) 512) view ring (at (now (outer .entry))) (at (now (inner .entry)))
         0 b (ring .radius) (b + 1) (now (page .entry)) (now (page .exit)) t ⌝ }
 {
-    let edge = blend_quarters(
+    let edge = outer_quarters(
         page,
+        palette,
         view,
         ring,
         outer,
@@ -165,45 +121,60 @@ fn draw_quarters(
     if row.inner == 0 {
         return solid;
     }
-    solid + blend_quarters(page, view, ring, outer, inner, b, y, z, row.hole, row.inner)
+    solid
+        + inner_quarters(
+            page,
+            palette,
+            view,
+            ring,
+            outer,
+            inner,
+            b,
+            y,
+            z,
+            row.hole,
+            row.inner,
+        )
 }
 
 // Draws the two rows at distance b of a ring that the clip has whole.
 fn draw_distance(
     page: &mut [u8],
+    palette: &[u16],
     view: View,
     ring: Ring,
     outer: &[u32],
     inner: &[u32],
     b: u64,
 ) -> u64
-    requires { ⌜ Ready view (length (now page)) ring (now outer) (now inner) × Enclosed view ring × (b < ring .radius) ⌝ }
-    ensures { λ t. ⌜ QuartersDrawn (inkOf (ring .level) 512) view ring (at (now (outer .entry))) (at (now (inner .entry)))
+    requires { ⌜ Ready (now palette) view (length (now page)) ring (now outer) (now inner) × Enclosed view ring × (b < ring .radius) ⌝ }
+    ensures { λ t. ⌜ QuartersDrawn (inkOf (lightsIn (now (palette .entry))) (ring .level) 512) view ring (at (now (outer .entry))) (at (now (inner .entry)))
         0 b (ring .radius) (b + 1) (now (page .entry)) (now (page .exit)) t ⌝ }
 {
     let row = measure(outer, inner, ring, b);
     let y = (ring.cy + b - ORIGIN) as usize;
     let z = (ring.cy - b - 1 - ORIGIN) as usize;
-    draw_quarters(page, view, ring, outer, inner, row, b, y, z)
+    draw_quarters(page, palette, view, ring, outer, inner, row, b, y, z)
 }
 
 // Draws a ring that the clip has whole, from the centre outwards, two rows at a time.
 pub(crate) fn draw_enclosed(
     page: &mut [u8],
+    palette: &[u16],
     view: View,
     ring: Ring,
     outer: &[u32],
     inner: &[u32],
 ) -> u64
-    requires { ⌜ Ready view (length (now page)) ring (now outer) (now inner) × Enclosed view ring ⌝ }
-    ensures { λ t. ⌜ RingDrawn (inkOf (ring .level) 512) view ring (at (now (outer .entry))) (at (now (inner .entry)))
+    requires { ⌜ Ready (now palette) view (length (now page)) ring (now outer) (now inner) × Enclosed view ring ⌝ }
+    ensures { λ t. ⌜ RingDrawn (inkOf (lightsIn (now (palette .entry))) (ring .level) 512) view ring (at (now (outer .entry))) (at (now (inner .entry)))
         (view .x0) (view .y0) (view .x1) (view .y1) (now (page .entry)) (now (page .exit)) t ⌝ }
 {
     let end = ring.radius;
     let mut touched: u64 = 0;
     let mut b: u64 = 0;
     while b < end {
-        touched += draw_distance(page, view, ring, outer, inner, b);
+        touched += draw_distance(page, palette, view, ring, outer, inner, b);
         b += 1;
     }
     touched

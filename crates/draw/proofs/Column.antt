@@ -4,13 +4,15 @@ use mathlib.Core.Path.{_≡_, refl, sym, _∙_}
 use mathlib.Core.Logic.{_⊎_, inl, inr, ⊎-elim}
 use Prim.Native.Nat.{ℕ, zero, suc, _+_, _-_, _*_, _≤_, _<_}
 use native.Mathlib.Omega.{arith}
+use lib.Dec.{ltb}
 use lib.IntN.{ℤ, pos}
 use borrow.Author.Tests.{eq-eqb, eqb-true, lt-ltb, le-ltb}
 use Rattle.numbers.specs.inner.Offset.{origin}
 use Rattle.numbers.proofs.Integer.{Diff, above, below}
 use Rattle.numbers.proofs.Order.{lt-or-le}
 use Rattle.numbers.proofs.Sum.{sum-zero, sum-some}
-use Rattle.shapes.specs.Limits.{shapeRefusal}
+use Rattle.shapes.specs.Limits.{sizeRefusal, clipRefusal, shapeRefusal}
+use Rattle.shapes.proofs.Limits.{tried-clear, tried-last}
 use Rattle.shapes.specs.declared.Clip.{Clip}
 use Rattle.shapes.specs.declared.Line.{Line}
 use Rattle.shapes.specs.declared.Shape.the-variants.{Line as line}
@@ -23,23 +25,26 @@ use Rattle.lines.specs.inner.Layout.{alongOf}
 use Rattle.lines.specs.inner.Columns.{Columns}
 use Rattle.lines.proofs.Strip.{InStrip, in-or-none, strip-small, column-along}
 use Rattle.draw.specs.Touch.{touched}
-use Rattle.draw.specs.Draw.{drawRefusal}
 use Rattle.draw.specs.Column.{isColumn, columnTouches, lastOf, lastColumn, columnRefusal}
 use Rattle.draw.specs.declared.Reach.the-variants.{Last, Nothing}
 use Rattle.draw.specs.inner.View.{viewOf}
-use Rattle.draw.proofs.Refusals.{draw-lawful}
+use Rattle.draw.proofs.Refusals.{view-lawful}
 use Rattle.draw.proofs.Touches.{touched-view}
 
--- no page is lent: what is tried is what is tried of the line on a page that is long enough
-pub column-refusals : (w h : ℕ) (c : Clip) (n : Line) → columnRefusal w h c n ≡ drawRefusal w h (w * h) c (line n)
-unfolding columnRefusal drawRefusal
-column-refusals w h c n = rw (le-ltb (w * h) (w * h) (omega arith)) refl
+-- the refusals of the parts, in order
+pub column-refusals : (w h : ℕ) (c : Clip) (n : Line)
+    → columnRefusal w h c n
+    ≡ cond (ltb 0 (sizeRefusal w h)) (sizeRefusal w h) (cond (ltb 0 (clipRefusal w h c)) (clipRefusal w h c) (shapeRefusal (line n)))
+unfolding columnRefusal
+column-refusals w h c n = rw (tried-last (shapeRefusal (line n)))
 
+-- no page is lent: one of just W·H bytes would do
 pub column-lawful : (w h : ℕ) (c : Clip) (n : Line) → columnRefusal w h c n ≡ 0 → Lawful (viewOf w h c) (h * w) × (shapeRefusal (line n) ≡ 0)
+unfolding columnRefusal
 column-lawful w h c n z =
-    let both = draw-lawful w h (w * h) c (line n) (sym (column-refusals w h c n) ∙ z) in
-    let e : h * w ≡ w * h = omega arith in
-    (rw e (both .0), both .1)
+    let page = tried-clear (sizeRefusal w h) _ z in
+    let kept = tried-clear (clipRefusal w h c) _ (page .1) in
+    (view-lawful w h (h * w) c (page .0) (omega arith) (kept .0), tried-clear (shapeRefusal (line n)) 0 (kept .1) .0)
 
 -- ---- the last column that has touches
 module _ (t : ℕ → ℕ) where
@@ -73,7 +78,7 @@ module _ (w h : ℕ) (c : Clip) (n : Line) (f : Frame) (size p e : ℕ) (lawful 
   -- a pixel that is touched lies in one of the columns
   within : (x y : ℕ) → touched c (line n) x y ≡ true → InStrip (viewOf w h c) f p e x y
   within x y t =
-      ⊎-elim (λ i. i) (λ k. absurd (omega (arith, r .whole x y, touched-view w h c 0 (line n) z x y .0 t))) (in-or-none (viewOf w h c) f (shapeOn (line n)) p e x y)
+      ⊎-elim (λ i. i) (λ k. absurd (omega (arith, r .whole x y, touched-view w h c (line n) z x y .0 t))) (in-or-none (viewOf w h c) f (shapeOn (line n)) p e x y)
 
   -- and in the column that it has in the frame
   column-is : (x y : ℕ) → InStrip (viewOf w h c) f p e x y → Diff (columnOf n (pos x) (pos y)) (alongOf f x y + origin) (f .x)
@@ -87,7 +92,7 @@ module _ (w h : ℕ) (c : Clip) (n : Line) (f : Frame) (size p e : ℕ) (lawful 
   has-touches k h₁ h₂ =
       let t = r .each k h₁ h₂ in
       let b = r .between (omega arith) in
-      let test = touched-view w h c 0 (line n) z (t .x) (t .y) .1 (t .covered) in
+      let test = touched-view w h c (line n) z (t .x) (t .y) .1 (t .covered) in
       let i = within (t .x) (t .y) test in
       let s = strip-small i (b .end .right) in
       let at = at-column (k + origin - f .x) (column-is (t .x) (t .y) i) (omega (arith, t .along-is, b .first)) in

@@ -1,6 +1,7 @@
 -- What is tried of a shape on a page, and what a shape without a refusal has.
 use mathlib.Core.Bool.{Bool, true, false, not, cond, _&&_, _||_}
 use mathlib.Core.Path.{_≡_, refl}
+use mathlib.Core.List.{List}
 use Prim.Native.Nat.{ℕ, _*_, _≤_}
 use native.Mathlib.Omega.{arith}
 use lib.Dec.{ltb, leb}
@@ -9,16 +10,20 @@ use Rattle.shapes.specs.Limits.{offSize, offPage, sizeRefusal, clipRefusal, sha
 use Rattle.shapes.proofs.Limits.{clear, tried-clear, or-clear, tried-last}
 use Rattle.shapes.specs.declared.Clip.{Clip}
 use Rattle.shapes.specs.declared.Shape.{Shape}
+use Rattle.lights.specs.Lights.{fit}
+use Rattle.lights.specs.inner.Fit.{Fit}
+use Rattle.lights.proofs.Rising.{fit-passed}
 use Rattle.page.specs.inner.Paint.{Lawful}
 use Rattle.draw.specs.Draw.{drawRefusal}
 use Rattle.draw.specs.inner.View.{viewOf}
 
 -- the refusals of the parts, in order
-pub draw-refusals : (w h size : ℕ) (c : Clip) (s : Shape)
-    → drawRefusal w h size c s
-    ≡ cond (ltb 0 (sizeRefusal w h)) (sizeRefusal w h) (cond (ltb size (w * h)) 21 (cond (ltb 0 (clipRefusal w h c)) (clipRefusal w h c) (shapeRefusal s)))
+pub draw-refusals : (w h size : ℕ) (lights : List ℕ) (c : Clip) (s : Shape)
+    → drawRefusal w h size lights c s
+    ≡ cond (ltb 0 (sizeRefusal w h)) (sizeRefusal w h)
+    (cond (ltb size (w * h)) 21 (cond (not (fit lights)) 32 (cond (ltb 0 (clipRefusal w h c)) (clipRefusal w h c) (shapeRefusal s))))
 unfolding drawRefusal
-draw-refusals w h size c s = rw (tried-last (shapeRefusal s))
+draw-refusals w h size lights c s = rw (tried-last (shapeRefusal s))
 
 -- ---- nothing refused
 
@@ -48,10 +53,15 @@ view-lawful w h size c e₁ room e₃ =
     rest true false r s e = absurd (let z : _≡_ {A = ℕ} 0 1 = cc in omega arith)
     rest false q r s e = absurd (let z : _≡_ {A = ℕ} 0 1 = cc in omega arith)
 
-pub draw-lawful : (w h size : ℕ) (c : Clip) (s : Shape) → drawRefusal w h size c s ≡ 0 → Lawful (viewOf w h c) size × (shapeRefusal s ≡ 0)
+pub draw-lawful : (w h size : ℕ) (lights : List ℕ) (c : Clip) (s : Shape) → drawRefusal w h size lights c s ≡ 0
+    → Fit lights × Lawful (viewOf w h c) size × (shapeRefusal s ≡ 0)
 unfolding drawRefusal
-draw-lawful w h size c s z =
+draw-lawful w h size lights c s z =
     let page = tried-clear (sizeRefusal w h) _ z in
     let room = clear (ltb size (w * h)) 20 _ (page .1) in
-    let kept = tried-clear (clipRefusal w h c) _ (room .1) in
-    (view-lawful w h size c (page .0) (ltb-false size (w * h) (room .0)) (kept .0), tried-clear (shapeRefusal s) 0 (kept .1) .0)
+    let lit = clear (not (fit lights)) 31 _ (room .1) in
+    let kept = tried-clear (clipRefusal w h c) _ (lit .1) in (
+      fit-passed lights (lit .0),
+      view-lawful w h size c (page .0) (ltb-false size (w * h) (room .0)) (kept .0),
+      tried-clear (shapeRefusal s) 0 (kept .1) .0,
+    )

@@ -16,7 +16,7 @@ use Rattle.shapes.specs.declared.Clip.{Clip}
 use Rattle.shapes.specs.declared.Shape.{Shape}
 use Rattle.coverage.specs.Coverage.{exactN, drawnN, drawnD}
 use Rattle.coverage.proofs.Soundness.{sound}
-use Rattle.page.specs.Blend.{blend}
+use Rattle.lights.specs.Blend.{blend}
 use Rattle.page.specs.inner.Ink.{inkOf}
 use Rattle.page.specs.inner.Paint.{dot, touch, clipped, painted, touches, inView}
 use Rattle.page.proofs.Over.{over-ext}
@@ -30,21 +30,9 @@ same-test m n e = ⊎-elim (λ h. lt-ltb 0 m h ∙ sym (lt-ltb 0 n (e .0 h))) (�
     none : m ≤ 0 → n ≤ 0
     none h = ⊎-elim (λ k. absurd (omega (arith, e .1 k))) (λ k. k) (lt-or-le 0 n)
 
-module _ (w h : ℕ) (c : Clip) (v : ℕ) (s : Shape) (lawful : shapeRefusal s ≡ 0) where
+module _ (w h : ℕ) (c : Clip) (s : Shape) (lawful : shapeRefusal s ≡ 0) where
   touched-drawn : (x y : ℕ) → ltb 0 (exactN s (pos x) (pos y)) ≡ ltb 0 (drawnN s (pos x) (pos y))
   touched-drawn x y = same-test (exactN s (pos x) (pos y)) (drawnN s (pos x) (pos y)) (sound s (pos x) (pos y) lawful .touched)
-
-  byte : (x y u : ℕ) → dot (inkOf v (drawnD s)) (inView (viewOf w h c) (shapeOn s) x y) u ≡ shapeByte c v s x y u
-  unfolding dot clipped shapeByte touched keeps
-  byte x y u =
-      rw (touched-drawn x y) (go (leb (c .x0) x && ltb x (c .x1) && leb (c .y0) y && ltb y (c .y1)))
-    where
-      n : ℕ
-      n = drawnN s (pos x) (pos y)
-
-      go : (k : Bool) → cond (ltb 0 (cond k n 0)) (blend u v (cond k n 0) (drawnD s)) u ≡ cond (k && ltb 0 n) (blend u v n (drawnD s)) u
-      go true = refl
-      go false = refl
 
   count : (x y : ℕ) → touch (inView (viewOf w h c) (shapeOn s) x y) ≡ cond (touched c s x y) 1 0
   unfolding clipped touched keeps
@@ -69,10 +57,23 @@ module _ (w h : ℕ) (c : Clip) (v : ℕ) (s : Shape) (lawful : shapeRefusal s �
       go true e = (λ _. omega (arith, e), λ _. refl)
       go false e = (λ z. absurd (true≢false (sym z)), λ k. absurd (omega (arith, e)))
 
-  pub page-touched : (l : List ℕ) → painted w (inkOf v (drawnD s)) (inView (viewOf w h c) (shapeOn s)) l ≡ pageAfter w c v s l
-  unfolding painted pageAfter
-  page-touched l = over-ext _ _ l (λ k b. byte (k % w) (k / w) (getD l k 0))
-
   pub count-touched : touches w h (inView (viewOf w h c) (shapeOn s)) ≡ touchCount w h c s
   unfolding touches touchCount
   count-touched = sum-ext h _ _ (λ y _. sum-ext w _ _ (λ x _. count x y))
+
+  module _ (lights : List ℕ) (v : ℕ) where
+    byte : (x y u : ℕ) → dot (inkOf lights v (drawnD s)) (inView (viewOf w h c) (shapeOn s) x y) u ≡ shapeByte lights c v s x y u
+    unfolding dot clipped shapeByte touched keeps
+    byte x y u =
+        rw (touched-drawn x y) (go (leb (c .x0) x && ltb x (c .x1) && leb (c .y0) y && ltb y (c .y1)))
+      where
+        n : ℕ
+        n = drawnN s (pos x) (pos y)
+
+        go : (k : Bool) → cond (ltb 0 (cond k n 0)) (blend lights u v (cond k n 0) (drawnD s)) u ≡ cond (k && ltb 0 n) (blend lights u v n (drawnD s)) u
+        go true = refl
+        go false = refl
+
+    pub page-touched : (l : List ℕ) → painted w (inkOf lights v (drawnD s)) (inView (viewOf w h c) (shapeOn s)) l ≡ pageAfter lights w c v s l
+    unfolding painted pageAfter
+    page-touched l = over-ext _ _ l (λ k b. byte (k % w) (k / w) (getD l k 0))

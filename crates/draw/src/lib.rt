@@ -1,5 +1,8 @@
 // One shape on a lent page, and the last column of a line.
 use coverage::line::frame_of;
+use lights::fit::Kind;
+use lights::fit::kind_of;
+use lights::palette::PALETTE;
 use lines::columns::columns_of;
 use page::View;
 use shapes::Clip;
@@ -8,13 +11,17 @@ use shapes::Line;
 use shapes::Ring;
 use shapes::Shape;
 ghost use mathlib.Core.Path.{_≡_};
+ghost use mathlib.Core.List.{List};
+ghost use Prim.Native.Nat.{ℕ};
 ghost use lib.ListN.{length};
 ghost use Rattle.shapes.specs.Limits.{shapeRefusal};
 ghost use Rattle.coverage.specs.Coverage.{drawnD};
+ghost use Rattle.lights.specs.inner.Fit.{Fit, IsKind};
+ghost use Rattle.lights.specs.inner.Palette.{lightsIn, Palette};
 ghost use Rattle.page.specs.inner.Ink.{inkOf};
 ghost use Rattle.page.specs.inner.Paint.{Lawful, DrawnIn};
 ghost use Rattle.draw.specs.Draw.{drawRefusal, shapeOutcome, shapePage};
-ghost use Rattle.draw.specs.Column.{columnReach};
+ghost use Rattle.draw.specs.Column.{columnRefusal, columnReach};
 ghost use Rattle.coverage.specs.inner.OnPage.{shapeOn};
 ghost use Rattle.draw.specs.inner.View.{viewOf};
 
@@ -31,9 +38,9 @@ pub enum Reach {
     Refused(u8),
 }
 
-// The first refusal of a shape on a page of size bytes, or 0; own is the shape's.
-fn draw_refusal(w: u16, h: u16, size: usize, clip: Clip, own: u8) -> u8
-    ensures { λ r. ⌜ ((shape : Shape) → own ≡ shapeRefusal shape → r ≡ drawRefusal w h size clip shape) ⌝ }
+// The first refusal of a shape on a page of size bytes, or 0; kind is that of the lights, and own is the shape's refusal.
+fn draw_refusal(w: u16, h: u16, size: usize, kind: Kind, clip: Clip, own: u8) -> u8
+    ensures { λ r. ⌜ ((lights : List ℕ) (shape : Shape) → IsKind lights kind → own ≡ shapeRefusal shape → r ≡ drawRefusal w h size lights clip shape) ⌝ }
 {
     let page_refusal = shapes::size_refusal(w, h);
     if 0 < page_refusal {
@@ -42,6 +49,9 @@ fn draw_refusal(w: u16, h: u16, size: usize, clip: Clip, own: u8) -> u8
     if size < (w as usize) * (h as usize) {
         return 21;
     }
+    if !kind.fit {
+        return 32;
+    }
     let clip_refusal = shapes::clip_refusal(w, h, clip);
     if 0 < clip_refusal {
         return clip_refusal;
@@ -49,16 +59,26 @@ fn draw_refusal(w: u16, h: u16, size: usize, clip: Clip, own: u8) -> u8
     own
 }
 
-// Draws a lawful shape; hands back how many pixels it touched.
-pub fn draw_lawful(page: &mut [u8], view: View, level: u8, shape: Shape) -> u64
-    requires { ⌜ Lawful view (length (now page)) × (shapeRefusal shape ≡ 0) ⌝ }
-    ensures { λ t. ⌜ DrawnIn view (inkOf level (drawnD shape)) (shapeOn shape) (now (page .entry)) (now (page .exit)) t ⌝ }
+// Draws a lawful shape by a palette; hands back how many pixels it touched.
+pub fn draw_lawful(page: &mut [u8], palette: &[u16], view: View, level: u8, shape: Shape) -> u64
+    requires { ⌜ Palette (now palette) × Lawful view (length (now page)) × (shapeRefusal shape ≡ 0) ⌝ }
+    ensures { λ t. ⌜ DrawnIn view (inkOf (lightsIn (now (palette .entry))) level (drawnD shape)) (shapeOn shape) (now (page .entry)) (now (page .exit)) t ⌝ }
 {
     match shape {
-        Shape::Line(line) => lines::draw_line(page, view, line, frame_of(line), level),
-        Shape::Disc(disc) => circles::draw_disc(page, view, disc, level),
-        Shape::Ring(ring) => circles::draw_ring(page, view, ring, level),
+        Shape::Line(line) => lines::draw_line(page, palette, view, line, frame_of(line), level),
+        Shape::Disc(disc) => circles::draw_disc(page, palette, view, disc, level),
+        Shape::Ring(ring) => circles::draw_ring(page, palette, view, ring, level),
     }
+}
+
+// Draws a lawful shape in lights that are not at even steps.
+fn draw_uneven(page: &mut [u8], lights: &[u16], view: View, level: u8, shape: Shape) -> u64
+    requires { ⌜ Fit (now lights) × Lawful view (length (now page)) × (shapeRefusal shape ≡ 0) ⌝ }
+    ensures { λ t. ⌜ DrawnIn view (inkOf (now (lights .entry)) level (drawnD shape)) (shapeOn shape) (now (page .entry)) (now (page .exit)) t ⌝ }
+{
+    let mut palette = [0u16; PALETTE];
+    lights::palette::fill_palette(&mut palette, lights);
+    draw_lawful(page, &palette, view, level, shape)
 }
 
 // A page's size and a clip on it, as the drawing functions take them.
@@ -75,65 +95,125 @@ pub fn view_of(w: u16, h: u16, clip: Clip) -> View
     }
 }
 
-// Each kind of shape is drawn so inside a clip on a page of w by h, or refused, and then the page is left as it was.
-pub fn draw_line(page: &mut [u8], w: u16, h: u16, clip: Clip, level: u8, line: Line) -> Outcome
-    ensures { λ r. ⌜ r ≡ shapeOutcome w h (length (now (page .entry))) clip (Shape.Line line) ⌝ }
-    ensures { λ r. ⌜ now (page .exit) ≡ shapePage w h clip level (Shape.Line line) (now (page .entry)) ⌝ }
+// Each kind of shape is drawn so inside a clip on a page of w by h in 256 lights, or refused, and then the page is left as it was. Lights at
+// even steps are a palette by themselves.
+pub fn draw_line(
+    page: &mut [u8],
+    w: u16,
+    h: u16,
+    lights: &[u16],
+    clip: Clip,
+    level: u8,
+    line: Line,
+) -> Outcome
+    ensures { λ r. ⌜ r ≡ shapeOutcome w h (length (now (page .entry))) (now (lights .entry)) clip (Shape.Line line) ⌝ }
+    ensures { λ r. ⌜ now (page .exit) ≡ shapePage w h (now (lights .entry)) clip level (Shape.Line line) (now (page .entry)) ⌝ }
 {
+    let lights_kind = kind_of(lights);
     let own = shapes::line_refusal(line);
-    let refusal = draw_refusal(w, h, page.len(), clip, own);
+    let refusal = draw_refusal(w, h, page.len(), lights_kind, clip, own);
     if 0 < refusal {
         return Outcome::Refused(refusal);
     }
     let view = view_of(w, h, clip);
-    Outcome::Touched(lines::draw_line(page, view, line, frame_of(line), level))
+    if lights_kind.even {
+        return Outcome::Touched(lines::draw_line(page, lights, view, line, frame_of(line), level));
+    }
+    Outcome::Touched(draw_uneven(page, lights, view, level, Shape::Line(line)))
 }
 
-pub fn draw_disc(page: &mut [u8], w: u16, h: u16, clip: Clip, level: u8, disc: Disc) -> Outcome
-    ensures { λ r. ⌜ r ≡ shapeOutcome w h (length (now (page .entry))) clip (Shape.Disc disc) ⌝ }
-    ensures { λ r. ⌜ now (page .exit) ≡ shapePage w h clip level (Shape.Disc disc) (now (page .entry)) ⌝ }
+pub fn draw_disc(
+    page: &mut [u8],
+    w: u16,
+    h: u16,
+    lights: &[u16],
+    clip: Clip,
+    level: u8,
+    disc: Disc,
+) -> Outcome
+    ensures { λ r. ⌜ r ≡ shapeOutcome w h (length (now (page .entry))) (now (lights .entry)) clip (Shape.Disc disc) ⌝ }
+    ensures { λ r. ⌜ now (page .exit) ≡ shapePage w h (now (lights .entry)) clip level (Shape.Disc disc) (now (page .entry)) ⌝ }
 {
+    let lights_kind = kind_of(lights);
     let own = shapes::disc_refusal(disc);
-    let refusal = draw_refusal(w, h, page.len(), clip, own);
+    let refusal = draw_refusal(w, h, page.len(), lights_kind, clip, own);
     if 0 < refusal {
         return Outcome::Refused(refusal);
     }
     let view = view_of(w, h, clip);
-    Outcome::Touched(circles::draw_disc(page, view, disc, level))
+    if lights_kind.even {
+        return Outcome::Touched(circles::draw_disc(page, lights, view, disc, level));
+    }
+    Outcome::Touched(draw_uneven(page, lights, view, level, Shape::Disc(disc)))
 }
 
-pub fn draw_ring(page: &mut [u8], w: u16, h: u16, clip: Clip, level: u8, ring: Ring) -> Outcome
-    ensures { λ r. ⌜ r ≡ shapeOutcome w h (length (now (page .entry))) clip (Shape.Ring ring) ⌝ }
-    ensures { λ r. ⌜ now (page .exit) ≡ shapePage w h clip level (Shape.Ring ring) (now (page .entry)) ⌝ }
+pub fn draw_ring(
+    page: &mut [u8],
+    w: u16,
+    h: u16,
+    lights: &[u16],
+    clip: Clip,
+    level: u8,
+    ring: Ring,
+) -> Outcome
+    ensures { λ r. ⌜ r ≡ shapeOutcome w h (length (now (page .entry))) (now (lights .entry)) clip (Shape.Ring ring) ⌝ }
+    ensures { λ r. ⌜ now (page .exit) ≡ shapePage w h (now (lights .entry)) clip level (Shape.Ring ring) (now (page .entry)) ⌝ }
 {
+    let lights_kind = kind_of(lights);
     let own = shapes::ring_refusal(ring);
-    let refusal = draw_refusal(w, h, page.len(), clip, own);
+    let refusal = draw_refusal(w, h, page.len(), lights_kind, clip, own);
     if 0 < refusal {
         return Outcome::Refused(refusal);
     }
     let view = view_of(w, h, clip);
-    Outcome::Touched(circles::draw_ring(page, view, ring, level))
+    if lights_kind.even {
+        return Outcome::Touched(circles::draw_ring(page, lights, view, ring, level));
+    }
+    Outcome::Touched(draw_uneven(page, lights, view, level, Shape::Ring(ring)))
 }
 
 // Draws a shape of any kind.
-pub fn draw_shape(page: &mut [u8], w: u16, h: u16, clip: Clip, level: u8, shape: Shape) -> Outcome
-    ensures { λ r. ⌜ r ≡ shapeOutcome w h (length (now (page .entry))) clip shape ⌝ }
-    ensures { λ r. ⌜ now (page .exit) ≡ shapePage w h clip level shape (now (page .entry)) ⌝ }
+pub fn draw_shape(
+    page: &mut [u8],
+    w: u16,
+    h: u16,
+    lights: &[u16],
+    clip: Clip,
+    level: u8,
+    shape: Shape,
+) -> Outcome
+    ensures { λ r. ⌜ r ≡ shapeOutcome w h (length (now (page .entry))) (now (lights .entry)) clip shape ⌝ }
+    ensures { λ r. ⌜ now (page .exit) ≡ shapePage w h (now (lights .entry)) clip level shape (now (page .entry)) ⌝ }
 {
     match shape {
-        Shape::Line(line) => draw_line(page, w, h, clip, level, line),
-        Shape::Disc(disc) => draw_disc(page, w, h, clip, level, disc),
-        Shape::Ring(ring) => draw_ring(page, w, h, clip, level, ring),
+        Shape::Line(line) => draw_line(page, w, h, lights, clip, level, line),
+        Shape::Disc(disc) => draw_disc(page, w, h, lights, clip, level, disc),
+        Shape::Ring(ring) => draw_ring(page, w, h, lights, clip, level, ring),
     }
 }
 
-// The last column of a line, counted from its first end, in which it touches a pixel inside a clip on a page of w by h. No page is lent, so
-// that none is too short.
+// The first refusal of a line whose last column is asked for, or 0; own is the line's.
+fn column_refusal(w: u16, h: u16, clip: Clip, own: u8) -> u8
+    ensures { λ r. ⌜ ((line : Line) → own ≡ shapeRefusal (Shape.Line line) → r ≡ columnRefusal w h clip line) ⌝ }
+{
+    let page_refusal = shapes::size_refusal(w, h);
+    if 0 < page_refusal {
+        return page_refusal;
+    }
+    let off_page = shapes::clip_refusal(w, h, clip);
+    if 0 < off_page {
+        return off_page;
+    }
+    own
+}
+
+// The last column of a line, counted from its first end, in which it touches a pixel inside a clip on a page of w by h. No page and no lights
+// are lent.
 pub fn last_column(w: u16, h: u16, clip: Clip, line: Line) -> Reach
     ensures { λ r. ⌜ r ≡ columnReach w h clip line ⌝ }
 {
     let own = shapes::line_refusal(line);
-    let refusal = draw_refusal(w, h, (w as usize) * (h as usize), clip, own);
+    let refusal = column_refusal(w, h, clip, own);
     if 0 < refusal {
         return Reach::Refused(refusal);
     }

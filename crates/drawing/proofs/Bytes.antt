@@ -15,9 +15,11 @@ use Rattle.coverage.proofs.Soundness.{sound}
 use Rattle.page.specs.Page.{over}
 use Rattle.page.proofs.Over.{over-part, getD-over}
 use Rattle.page.proofs.Paint.{row-end, row-of, column-of}
+use Rattle.lights.specs.Lights.{lightOf}
+use Rattle.lights.specs.inner.Fit.{Fit}
 use Rattle.bound.specs.Exact.{Touch, whole, byteAfter}
 use Rattle.bound.specs.inner.Sound.{AllSound}
-use Rattle.bound.proofs.Levels.{close-to-exact, exact-den, bound-den}
+use Rattle.bound.proofs.Lights.{close-to-exact, exact-den, bound-den}
 use Rattle.draw.specs.Touch.{touched}
 use Rattle.lists.specs.Drawing.{Drawing}
 use Rattle.drawing.specs.Touches.{touchOf, touchesAt}
@@ -29,19 +31,19 @@ use Rattle.lists.proofs.Walkable.{room}
 -- ---- the bytes
 
 -- the part that is lent, drawn, in front of the bytes past it
-pub page-whole : (w h b : ℕ) (ds : List Drawing) (l m : List ℕ) → w * h ≤ length l → m ≡ touchedPage w b ds (take (w * h) l)
-    → m ++ drop (w * h) l ≡ drawnPage w h b ds l
+pub page-whole : (lights : List ℕ) (w h b : ℕ) (ds : List Drawing) (l m : List ℕ) → w * h ≤ length l → m ≡ touchedPage lights w b ds (take (w * h) l)
+    → m ++ drop (w * h) l ≡ drawnPage lights w h b ds l
 unfolding touchedPage drawnPage
-page-whole w h b ds l m room e =
+page-whole lights w h b ds l m room e =
     let n : w * h ≡ w * h - 0 = omega arith in
     ap (λ (q : List ℕ). m ++ q) (sym (post-is 0 (w * h) l (omega arith)))
-    ∙ over-part _ (λ k _. byteAfter b (touchesAt ds (k % w) (k / w))) l m 0 (w * h) (omega arith) room
-    (e ∙ ap (λ (j : ℕ). over (λ k _. byteAfter b (touchesAt ds (k % w) (k / w))) (take j l)) n)
+    ∙ over-part _ (λ k _. byteAfter lights b (touchesAt ds (k % w) (k / w))) l m 0 (w * h) (omega arith) room
+    (e ∙ ap (λ (j : ℕ). over (λ k _. byteAfter lights b (touchesAt ds (k % w) (k / w))) (take j l)) n)
     inside
     outside
   where
     at : ℕ → ℕ
-    at k = byteAfter b (touchesAt ds (k % w) (k / w))
+    at k = byteAfter lights b (touchesAt ds (k % w) (k / w))
 
     inside : (k : ℕ) → 0 ≤ k → k < w * h → at (k - 0) ≡ cond (ltb k (w * h)) (at k) (getD l k 0)
     inside k _ i = let n : k - 0 ≡ k = omega arith in rw (lt-ltb k (w * h) i) (ap at n)
@@ -52,7 +54,7 @@ page-whole w h b ds l m room e =
 
 -- ---- the bound
 
-touches-sound : (v : ℕ) (ds : List Drawing) (x y : ℕ) → AllLawful v ds → AllSound (touchesAt ds x y)
+pub touches-sound : (v : ℕ) (ds : List Drawing) (x y : ℕ) → AllLawful v ds → AllSound (touchesAt ds x y)
 unfolding AllLawful touchesAt
 touches-sound v [] x y a = tt
 touches-sound v (d ∷ ds) x y a = go (touched (d .settings .clip) (d .shape) x y) (touches-sound v ds x y (a .3))
@@ -62,15 +64,19 @@ touches-sound v (d ∷ ds) x y a = go (touched (d .settings .clip) (d .shape) x 
     go false s = s
 
 -- a byte that sound touches leave is within their bound
-byte-bounded : (b : ℕ) (ts : List Touch) → b ≤ 255 → AllSound ts → ByteBounded (byteAfter b ts) b ts
-byte-bounded b ts h s =
-    record { exact-pos = exact-den (whole b) ts s (omega arith); bound-pos = bound-den ts s; within = close-to-exact b ts h s }
+byte-bounded : (lights : List ℕ) → Fit lights → (b : ℕ) (ts : List Touch) → b ≤ 255 → AllSound ts → ByteBounded lights (byteAfter lights b ts) b ts
+byte-bounded lights fit b ts h s =
+    record {
+      exact-pos = exact-den lights (whole (lightOf lights b)) ts s (omega arith);
+      bound-pos = bound-den lights ts s;
+      within = close-to-exact lights fit b ts h s;
+    }
 
 -- pixel (x, y) of the page
-byte-is : (w h b : ℕ) (ds : List Drawing) (l : List ℕ) (x y : ℕ) → w * h ≤ length l → x < w → y < h
-    → getD (drawnPage w h b ds l) (y * w + x) 0 ≡ byteAfter b (touchesAt ds x y)
+pub byte-is : (lights : List ℕ) (w h b : ℕ) (ds : List Drawing) (l : List ℕ) (x y : ℕ) → w * h ≤ length l → x < w → y < h
+    → getD (drawnPage lights w h b ds l) (y * w + x) 0 ≡ byteAfter lights b (touchesAt ds x y)
 unfolding drawnPage
-byte-is w h b ds l x y room i j =
+byte-is lights w h b ds l x y room i j =
     let row = row-end y h w j in
     let size = mul-comm w h in
     let inside : y * w + x < w * h = omega arith in
@@ -79,8 +85,8 @@ byte-is w h b ds l x y room i j =
     getD-over _ l (y * w + x) (omega arith)
     ∙ rw (lt-ltb (y * w + x) (w * h) inside, column, line)
 
-pub all-bounded : (v w h b : ℕ) (ds : List Drawing) (l : List ℕ) → w * h ≤ length l → b ≤ 255 → AllLawful v ds
-    → (x y : ℕ) → x < w → y < h → ByteBounded (getD (drawnPage w h b ds l) (y * w + x) 0) b (touchesAt ds x y)
-all-bounded v w h b ds l room k a x y i j =
-    subst (λ (u : ℕ). ByteBounded u b (touchesAt ds x y)) (sym (byte-is w h b ds l x y room i j))
-    (byte-bounded b (touchesAt ds x y) k (touches-sound v ds x y a))
+pub all-bounded : (lights : List ℕ) → Fit lights → (v w h b : ℕ) (ds : List Drawing) (l : List ℕ) → w * h ≤ length l → b ≤ 255 → AllLawful v ds
+    → (x y : ℕ) → x < w → y < h → ByteBounded lights (getD (drawnPage lights w h b ds l) (y * w + x) 0) b (touchesAt ds x y)
+all-bounded lights fit v w h b ds l room k a x y i j =
+    subst (λ (u : ℕ). ByteBounded lights u b (touchesAt ds x y)) (sym (byte-is lights w h b ds l x y room i j))
+    (byte-bounded lights fit b (touchesAt ds x y) k (touches-sound v ds x y a))

@@ -7,6 +7,7 @@ use native.Mathlib.Omega.{arith}
 use lib.ListN.{length, getD, replicate, take, drop, length-take}
 use Rattle.numbers.specs.Sum.{total}
 use Rattle.shapes.proofs.Limits.{basis-size}
+use Rattle.lights.specs.inner.Fit.{Fit}
 use Rattle.lists.specs.Format.{headerAt, basisOf}
 use Rattle.lists.specs.List.{Records, accepted, refused, pageRecords, checkedAs, checkedOf}
 use Rattle.lists.specs.Drawing.{Drawing, drawings}
@@ -15,7 +16,7 @@ use Rattle.lists.specs.inner.Walk.{listDrawings}
 use Rattle.lists.specs.declared.format.Header.{Header}
 use Rattle.lists.specs.declared.check.Checked.the-variants.{Accepted, Refused}
 use Rattle.lists.proofs.Left.{start-clip}
-use Rattle.lists.proofs.Walkable.{found, room, list-walkable, drawings-are}
+use Rattle.lists.proofs.Walkable.{found, room, lit, list-walkable, drawings-are}
 use Rattle.draw.proofs.Refusals.{view-lawful}
 use Rattle.drawing.specs.Touches.{touchesAt}
 use Rattle.drawing.specs.Page.{drawnPage}
@@ -33,11 +34,11 @@ unfolding ownOf total
 none-counted w h = refl
 
 -- a list that the check refuses
-pub refused-claim : (s l : List ℕ) (f place : ℕ) → Refused f place ≡ checkedOf s (length l) → Claim s l (record { answer = refusedAt f place; touched = replicate 8 0 }) l
+pub refused-claim : (lights s l : List ℕ) (f place : ℕ) → Refused f place ≡ checkedOf s (length l) lights → Claim lights s l (record { answer = refusedAt f place; touched = replicate 8 0 }) l
 unfolding answerBy drawingsBy pageBy Bounded AllLawful
-refused-claim s l f place e = go (pageRecords s (length l)) e
+refused-claim lights s l f place e = go (pageRecords s (length l) lights) e
   where
-    go : (x : Records) → Refused f place ≡ checkedAs (headerAt s) x → ClaimBy (headerAt s) x l (record { answer = refusedAt f place; touched = replicate 8 0 }) l
+    go : (x : Records) → Refused f place ≡ checkedAs (headerAt s) x → ClaimBy lights (headerAt s) x l (record { answer = refusedAt f place; touched = replicate 8 0 }) l
     go (accepted rs) k = absurd (let z : _≡_ {A = ℕ} 0 1 = cc in omega arith)
     go (refused g q) k =
         let a : f ≡ g = cc in
@@ -46,9 +47,12 @@ refused-claim s l f place e = go (pageRecords s (length l)) e
         record { answer = rw (a, b); page = refl; bound = tt; counts = counted (d .version) (d .w) (d .h) [] (replicate 8 0) tt (none-counted (d .w) (d .h)) }
 
 -- one that it accepts with the header d
-module _ (s l : List ℕ) (d : Header) (e : Accepted d ≡ checkedOf s (length l)) where
+module _ (lights s l : List ℕ) (d : Header) (e : Accepted d ≡ checkedOf s (length l) lights) where
   fits : d .w * d .h ≤ length l
-  fits = room s (length l) d e
+  fits = room s (length l) lights d e
+
+  pub fit : Fit lights
+  fit = lit s (length l) lights d e
 
   -- the page's W·H bytes are lent
   abbrev lent : List ℕ
@@ -61,7 +65,7 @@ module _ (s l : List ℕ) (d : Header) (e : Accepted d ≡ checkedOf s (length l
   lent-room = fits
 
   pub lent-drawable : Drawable s (basisOf d) (length lent)
-  lent-drawable = let k = lent-length in record { walk = list-walkable (found s (length l) d e); room = omega arith }
+  lent-drawable = let k = lent-length in record { walk = list-walkable (found s (length l) lights d e); room = omega arith }
 
   pub few : d .w * d .h < 2 ^ 64
   few =
@@ -70,16 +74,16 @@ module _ (s l : List ℕ) (d : Header) (e : Accepted d ≡ checkedOf s (length l
       omega (arith, mul-le-mul {n₁ = d .w} {m₁ = d .h} {n₂ = 1024} {m₂ = 1024} (law .w-most) (law .h-most))
 
   abbrev ds : List Drawing
-  ds = drawings (basisOf d) (found s (length l) d e .records)
+  ds = drawings (basisOf d) (found s (length l) lights d e .records)
 
   -- the walk over the list draws these
   same : listDrawings (basisOf d) s ≡ ds
-  same = drawings-are (found s (length l) d e)
+  same = drawings-are (found s (length l) lights d e)
 
   -- it left p of what was lent, and touched ts pixels by player
-  module _ {p ts : List ℕ} (done : ListPainted (basisOf d) (d .background) (listDrawings (basisOf d) s) lent p ts) where
-    painted : ListPainted (basisOf d) (d .background) ds lent p ts
-    painted = subst (λ (q : List Drawing). ListPainted (basisOf d) (d .background) q lent p ts) same done
+  module _ {p ts : List ℕ} (done : ListPainted lights (basisOf d) (d .background) (listDrawings (basisOf d) s) lent p ts) where
+    painted : ListPainted lights (basisOf d) (d .background) ds lent p ts
+    painted = subst (λ (q : List Drawing). ListPainted lights (basisOf d) (d .background) q lent p ts) same done
 
     abbrev outcome : Outcome
     outcome = record { answer = Drawn (d .w) (d .h); touched = ts }
@@ -87,15 +91,15 @@ module _ (s l : List ℕ) (d : Header) (e : Accepted d ≡ checkedOf s (length l
     abbrev whole : List ℕ
     whole = p ++ drop (d .w * d .h) l
 
-    page-is : whole ≡ drawnPage (d .w) (d .h) (d .background) ds l
-    page-is = page-whole (d .w) (d .h) (d .background) ds l p fits (painted .page)
+    page-is : whole ≡ drawnPage lights (d .w) (d .h) (d .background) ds l
+    page-is = page-whole lights (d .w) (d .h) (d .background) ds l p fits (painted .page)
 
-    bounded : (x y : ℕ) → x < d .w → y < d .h → ByteBounded (getD whole (y * d .w + x) 0) (d .background) (touchesAt ds x y)
+    bounded : (x y : ℕ) → x < d .w → y < d .h → ByteBounded lights (getD whole (y * d .w + x) 0) (d .background) (touchesAt ds x y)
     bounded x y i j =
-        subst (λ (m : List ℕ). ByteBounded (getD m (y * d .w + x) 0) (d .background) (touchesAt ds x y)) (sym page-is)
-        (all-bounded (d .version) (d .w) (d .h) (d .background) ds l fits (painted .byte) (painted .lawful) x y i j)
+        subst (λ (m : List ℕ). ByteBounded lights (getD m (y * d .w + x) 0) (d .background) (touchesAt ds x y)) (sym page-is)
+        (all-bounded lights fit (d .version) (d .w) (d .h) (d .background) ds l fits (painted .byte) (painted .lawful) x y i j)
 
-    records-claim : ClaimBy d (accepted (found s (length l) d e .records)) l outcome whole
+    records-claim : ClaimBy lights d (accepted (found s (length l) lights d e .records)) l outcome whole
     unfolding answerBy drawingsBy pageBy Bounded
     records-claim =
         record {
@@ -105,11 +109,11 @@ module _ (s l : List ℕ) (d : Header) (e : Accepted d ≡ checkedOf s (length l
           counts = counted (d .version) (d .w) (d .h) ds ts (painted .lawful) (painted .counts);
         }
 
-    pub accepted-claim : Claim s l outcome whole
+    pub accepted-claim : Claim lights s l outcome whole
     accepted-claim =
-        subst (λ (q : Header). ClaimBy q (pageRecords s (length l)) l outcome whole) (found s (length l) d e .header)
-        (subst (λ (x : Records). ClaimBy d x l outcome whole) (sym (found s (length l) d e .is)) records-claim)
+        subst (λ (q : Header). ClaimBy lights q (pageRecords s (length l) lights) l outcome whole) (found s (length l) lights d e .header)
+        (subst (λ (x : Records). ClaimBy lights d x l outcome whole) (sym (found s (length l) lights d e .is)) records-claim)
 
 -- what comes of a list is its answer and its counts
-pub claimed-outcome : {d : Header} {x : Records} {l m : List ℕ} {r : Outcome} → ClaimBy d x l r m → r ≡ outcomeBy d x
+pub claimed-outcome : {lights : List ℕ} {d : Header} {x : Records} {l m : List ℕ} {r : Outcome} → ClaimBy lights d x l r m → r ≡ outcomeBy d x
 claimed-outcome c = λ i. record { answer = c .answer i; touched = c .counts .shapes i }

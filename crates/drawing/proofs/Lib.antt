@@ -4,3 +4,4 @@ pub mod Players
 pub mod Records
 pub mod Bytes
 pub mod Claim
+pub mod Codes

@@ -38,14 +38,14 @@ use Rattle.lists.proofs.Left.{Left, left-start, left-basis, left-inside, left-e
 
 -- ---- one record
 
-pub shape-drawn : {b : Basis} {size t : ℕ} (f : Settings) (s : Shape) {l m : List ℕ} → Lawful (viewOf (b .w) (b .h) (f .clip)) size → shapeRefusal s ≡ 0
-    → DrawnIn (viewOf (b .w) (b .h) (f .clip)) (inkOf (f .level) (drawnD s)) (shapeOn s) l m t
-    → ShapesDrawn b (drawingOf f (shape s)) l m t × (t ≤ 1048576)
+pub shape-drawn : {lights : List ℕ} {b : Basis} {size t : ℕ} (f : Settings) (s : Shape) {l m : List ℕ} → Lawful (viewOf (b .w) (b .h) (f .clip)) size → shapeRefusal s ≡ 0
+    → DrawnIn (viewOf (b .w) (b .h) (f .clip)) (inkOf lights (f .level) (drawnD s)) (shapeOn s) l m t
+    → ShapesDrawn lights b (drawingOf f (shape s)) l m t × (t ≤ 1048576)
 unfolding shapesPage total drawingOf
-shape-drawn {b} f s {l} law z d =
-    let e = count-touched (b .w) (b .h) (f .clip) (f .level) s z in
+shape-drawn {lights} {b} f s {l} law z d =
+    let e = count-touched (b .w) (b .h) (f .clip) s z in
     let k = d .count in
-    (record { page = d .page ∙ page-touched (b .w) (b .h) (f .clip) (f .level) s z l; count = omega arith }, drawn-count law d)
+    (record { page = d .page ∙ page-touched (b .w) (b .h) (f .clip) s z lights (f .level) l; count = omega arith }, drawn-count law d)
 
 -- a record without a refusal, drawn at a level that is a byte for a player of the version, in front of lawful drawings
 pub lawful-then : (b : Basis) (f : Settings) (r : Record) (ds : List Drawing) → recordRefusal b r ≡ 0 → f .level ≤ 255
@@ -59,10 +59,10 @@ lawful-then b f (shape s) ds z k i a = (k, i, z, a)
 -- ---- the walk
 
 -- at a place, with the settings f, the page l and the counts ts: what is left makes of them the page goal and the counts of all
-pub record Remaining (b : Basis) (list : List ℕ) (all : List Drawing) (goal : List ℕ) (place : ℕ) (f : Settings) (l ts : List ℕ) : Type 0 where
+pub record Remaining (lights : List ℕ) (b : Basis) (list : List ℕ) (all : List Drawing) (goal : List ℕ) (place : ℕ) (f : Settings) (l ts : List ℕ) : Type 0 where
   pub records : List Record
   pub left : Left b list place f records
-  pub page : goal ≡ shapesPage (b .w) (drawingsFrom f records) l
+  pub page : goal ≡ shapesPage lights (b .w) (drawingsFrom f records) l
   pub counts : (p : ℕ) → shapesCount (b .w) (b .h) (ownOf p all) ≡ getD ts p 0 + shapesCount (b .w) (b .h) (ownOf p (drawingsFrom f records))
   pub lawful : AllLawful (b .version) (drawingsFrom f records) → AllLawful (b .version) all
   pub room : b .w * b .h ≤ length l
@@ -70,11 +70,11 @@ pub record Remaining (b : Basis) (list : List ℕ) (all : List Drawing) (goal : 
   pub few : (p : ℕ) → getD ts p 0 ≤ 1048576 * place
 
 -- the whole list on the page l
-abbrev pub RemainingOf : Basis → List ℕ → List ℕ → ℕ → Settings → List ℕ → List ℕ → Type 0
-RemainingOf b list l = Remaining b list (listDrawings b list) (shapesPage (b .w) (listDrawings b list) l)
+abbrev pub RemainingOf : List ℕ → Basis → List ℕ → List ℕ → ℕ → Settings → List ℕ → List ℕ → Type 0
+RemainingOf lights b list l = Remaining lights b list (listDrawings b list) (shapesPage lights (b .w) (listDrawings b list) l)
 
-pub remaining-start : (b : Basis) (list l : List ℕ) → Drawable list b (length l) → RemainingOf b list l headerSize (start b) l (replicate 8 0)
-remaining-start b list l d =
+pub remaining-start : (lights : List ℕ) (b : Basis) (list l : List ℕ) → Drawable list b (length l) → RemainingOf lights b list l headerSize (start b) l (replicate 8 0)
+remaining-start lights b list l d =
     record {
       records = recordsIn (listRecords b list);
       left = left-start b list (d .walk);
@@ -86,7 +86,7 @@ remaining-start b list l d =
       few = λ p. omega (arith, zeros 8 p);
     }
 
-module _ {b : Basis} {place : ℕ} {list goal l ts : List ℕ} {all : List Drawing} {f : Settings} (p : Remaining b list all goal place f l ts) where
+module _ {lights : List ℕ} {b : Basis} {place : ℕ} {list goal l ts : List ℕ} {all : List Drawing} {f : Settings} (p : Remaining lights b list all goal place f l ts) where
   -- the player in force has a count
   pub player-below : f .player < 8
   player-below = omega (arith, p .left .player, players-most (b .version))
@@ -99,7 +99,7 @@ module _ {b : Basis} {place : ℕ} {list goal l ts : List ℕ} {all : List Drawi
   unfolding AllLawful drawingsFrom drawingOf shapesPage total ownOf
   remaining-end z =
       let e = left-end (p .left) z in
-      let page : goal ≡ l = p .page ∙ ap (λ (rs : List Record). shapesPage (b .w) (drawingsFrom f rs) l) e in
+      let page : goal ≡ l = p .page ∙ ap (λ (rs : List Record). shapesPage lights (b .w) (drawingsFrom f rs) l) e in
       let count : (q : ℕ) → shapesCount (b .w) (b .h) (ownOf q all) ≡ getD ts q 0 + 0
       = λ q. p .counts q ∙ ap (λ (rs : List Record). getD ts q 0 + shapesCount (b .w) (b .h) (ownOf q (drawingsFrom f rs))) e in (
         sym page,
@@ -113,7 +113,7 @@ module _ {b : Basis} {place : ℕ} {list goal l ts : List ℕ} {all : List Drawi
 
     -- it is no end: it is drawn, and the rest is left
     module _ (some : getD list place 0 ≡ 0 → ⊥) {m : List ℕ} {k after : ℕ} {g : Settings}
-        (drawn : ShapesDrawn b (drawingOf f r) l m k) (most : k ≤ 1048576) (byte : f .level ≤ 255)
+        (drawn : ShapesDrawn lights b (drawingOf f r) l m k) (most : k ≤ 1048576) (byte : f .level ≤ 255)
         (next : g ≡ inForce f r) (past : after ≡ place + kindSize (getD list place 0)) where
       abbrev then-left : Step (p .left) found some next past
       then-left = left-next (p .left) found some next past
@@ -125,12 +125,12 @@ module _ {b : Basis} {place : ℕ} {list goal l ts : List ℕ} {all : List Drawi
       abbrev more : List ℕ
       more = set ts (f .player) (getD ts (f .player) 0 + k)
 
-      page-left : goal ≡ shapesPage (b .w) (drawingsFrom g rest) m
+      page-left : goal ≡ shapesPage lights (b .w) (drawingsFrom g rest) m
       page-left =
           p .page
-          ∙ ap (λ ds. shapesPage (b .w) ds l) (then-left .drawings)
-          ∙ page-then (b .w) (drawingOf f r) (drawingsFrom g rest) l
-          ∙ ap (shapesPage (b .w) (drawingsFrom g rest)) (sym (drawn .page))
+          ∙ ap (λ ds. shapesPage lights (b .w) ds l) (then-left .drawings)
+          ∙ page-then lights (b .w) (drawingOf f r) (drawingsFrom g rest) l
+          ∙ ap (shapesPage lights (b .w) (drawingsFrom g rest)) (sym (drawn .page))
 
       -- a player's own drawings of what is left: those of the record, then the rest
       own-then : (q : ℕ) → shapesCount (b .w) (b .h) (ownOf q (drawingsFrom f (p .records)))
@@ -155,10 +155,10 @@ module _ {b : Basis} {place : ℕ} {list goal l ts : List ℕ} {all : List Drawi
           let add : cond (eqb (f .player) q) k 0 ≤ 1048576 = cond-le (eqb (f .player) q) most (omega arith) in
           omega (arith, p .few q, raised ts (f .player) k q player-inside)
 
-      pub remaining-next : Remaining b list all goal after g m more
+      pub remaining-next : Remaining lights b list all goal after g m more
       remaining-next =
           let room = p .room in
-          let same = ap length (drawn .page) ∙ length-shapes (b .w) (drawingOf f r) l in
+          let same = ap length (drawn .page) ∙ length-shapes lights (b .w) (drawingOf f r) l in
           record {
             records = rest;
             left = then-left .left;

@@ -7,7 +7,7 @@ use native.Mathlib.Omega.{arith}
 use lib.ListN.{length, getD}
 use Rattle.numbers.specs.Sum.{total}
 use Rattle.numbers.proofs.Sum.{sum-ext, sum-add, sum-zero}
-use Rattle.page.specs.Blend.{blend}
+use Rattle.lights.specs.Blend.{blend}
 use Rattle.page.specs.Page.{over}
 use Rattle.page.proofs.Over.{over-ext, over-over, over-same, length-over}
 use Rattle.bound.specs.Exact.{Touch, after, byteAfter}
@@ -19,43 +19,43 @@ use Rattle.drawing.specs.inner.Walk.{shapesPage, touchedPage}
 
 -- ---- some shapes, then others
 
-pub page-then : (w : ℕ) (ds es : List Drawing) (l : List ℕ) → shapesPage w (ds ++ es) l ≡ shapesPage w es (shapesPage w ds l)
+pub page-then : (lights : List ℕ) (w : ℕ) (ds es : List Drawing) (l : List ℕ) → shapesPage lights w (ds ++ es) l ≡ shapesPage lights w es (shapesPage lights w ds l)
 unfolding shapesPage
-page-then w [] es l = refl
-page-then w (d ∷ ds) es l = page-then w ds es (pageAfter w (d .settings .clip) (d .settings .level) (d .shape) l)
+page-then lights w [] es l = refl
+page-then lights w (d ∷ ds) es l = page-then lights w ds es (pageAfter lights w (d .settings .clip) (d .settings .level) (d .shape) l)
 
 -- ---- the page
 
 -- the byte after the first of some drawings, and then after the rest
-byte-first : (d : Drawing) (ds : List Drawing) (x y u : ℕ)
-    → byteAfter (shapeByte (d .settings .clip) (d .settings .level) (d .shape) x y u) (touchesAt ds x y) ≡ byteAfter u (touchesAt (d ∷ ds) x y)
+byte-first : (lights : List ℕ) (d : Drawing) (ds : List Drawing) (x y u : ℕ)
+    → byteAfter lights (shapeByte lights (d .settings .clip) (d .settings .level) (d .shape) x y u) (touchesAt ds x y) ≡ byteAfter lights u (touchesAt (d ∷ ds) x y)
 unfolding shapeByte touchesAt byteAfter after
-byte-first d ds x y u = go (touched (d .settings .clip) (d .shape) x y)
+byte-first lights d ds x y u = go (touched (d .settings .clip) (d .shape) x y)
   where
     t : Touch
     t = touchOf d x y
 
-    go : (k : Bool) → byteAfter (cond k (blend u (t .level) (t .drawn .num) (t .drawn .den)) u) (touchesAt ds x y)
-        ≡ byteAfter u (cond k (t ∷ touchesAt ds x y) (touchesAt ds x y))
+    go : (k : Bool) → byteAfter lights (cond k (blend lights u (t .level) (t .drawn .num) (t .drawn .den)) u) (touchesAt ds x y)
+        ≡ byteAfter lights u (cond k (t ∷ touchesAt ds x y) (touchesAt ds x y))
     go true = refl
     go false = refl
 
-no-touch : (u x y : ℕ) → u ≡ byteAfter u (touchesAt [] x y)
+no-touch : (lights : List ℕ) (u x y : ℕ) → u ≡ byteAfter lights u (touchesAt [] x y)
 unfolding byteAfter after touchesAt
-no-touch u x y = refl
+no-touch lights u x y = refl
 
-pub page-bytes : (w : ℕ) (ds : List Drawing) (l : List ℕ) → shapesPage w ds l ≡ over (λ k u. byteAfter u (touchesAt ds (k % w) (k / w))) l
+pub page-bytes : (lights : List ℕ) (w : ℕ) (ds : List Drawing) (l : List ℕ) → shapesPage lights w ds l ≡ over (λ k u. byteAfter lights u (touchesAt ds (k % w) (k / w))) l
 unfolding shapesPage pageAfter
-page-bytes w [] l = over-same _ l (λ k _. no-touch (getD l k 0) (k % w) (k / w))
-page-bytes w (d ∷ ds) l =
-    page-bytes w ds (pageAfter w (d .settings .clip) (d .settings .level) (d .shape) l)
+page-bytes lights w [] l = over-same _ l (λ k _. no-touch lights (getD l k 0) (k % w) (k / w))
+page-bytes lights w (d ∷ ds) l =
+    page-bytes lights w ds (pageAfter lights w (d .settings .clip) (d .settings .level) (d .shape) l)
     ∙ over-over _ _ l
-    ∙ over-ext _ _ l (λ k _. byte-first d ds (k % w) (k / w) (getD l k 0))
+    ∙ over-ext _ _ l (λ k _. byte-first lights d ds (k % w) (k / w) (getD l k 0))
 
 -- a page of one level b, drawn on
-pub page-painted : (w b : ℕ) (ds : List Drawing) (l : List ℕ) → shapesPage w ds (over (λ _ _. b) l) ≡ touchedPage w b ds l
+pub page-painted : (lights : List ℕ) (w b : ℕ) (ds : List Drawing) (l : List ℕ) → shapesPage lights w ds (over (λ _ _. b) l) ≡ touchedPage lights w b ds l
 unfolding touchedPage
-page-painted w b ds l = page-bytes w ds (over (λ _ _. b) l) ∙ over-over _ _ l
+page-painted lights w b ds l = page-bytes lights w ds (over (λ _ _. b) l) ∙ over-over _ _ l
 
 -- ---- the count
 
@@ -79,5 +79,5 @@ counts-same w h (d ∷ ds) =
     ap (λ (n : ℕ). touchCount w h (d .settings .clip) (d .shape) + n) (counts-same w h ds)
     ∙ sym (sum-ext h _ _ (λ y _. sum-ext w _ _ (λ x _. count-first d ds x y) ∙ sum-add w _ _) ∙ sum-add h _ _)
 
-pub length-shapes : (w : ℕ) (ds : List Drawing) (l : List ℕ) → length (shapesPage w ds l) ≡ length l
-length-shapes w ds l = ap length (page-bytes w ds l) ∙ length-over _ l
+pub length-shapes : (lights : List ℕ) (w : ℕ) (ds : List Drawing) (l : List ℕ) → length (shapesPage lights w ds l) ≡ length l
+length-shapes lights w ds l = ap length (page-bytes lights w ds l) ∙ length-over _ l

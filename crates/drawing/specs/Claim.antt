@@ -4,6 +4,7 @@ use Prim.Native.Nat.{ℕ, _+_, _*_, _<_}
 use lib.ListN.{length, getD}
 use mathlib.Core.Path.{_≡_}
 use Rattle.numbers.specs.Fraction.{Within}
+use Rattle.lights.specs.Lights.{lightOf}
 use Rattle.lists.specs.Format.{headerAt, basisOf}
 use Rattle.lists.specs.List.{Records, accepted, refused, pageRecords}
 use Rattle.lists.specs.Drawing.{Drawing, drawings}
@@ -28,45 +29,45 @@ unfoldable pub drawingsBy : Header → Records → List Drawing
 drawingsBy d (accepted rs) = drawings (basisOf d) rs
 drawingsBy d (refused f place) = []
 
--- the page l after it; after a refusal as it was
-unfoldable pub pageBy : Header → Records → List ℕ → List ℕ
-pageBy d (accepted rs) l = drawnPage (d .w) (d .h) (d .background) (drawings (basisOf d) rs) l
-pageBy d (refused f place) l = l
+-- the page l after it in some lights; after a refusal as it was
+unfoldable pub pageBy : List ℕ → Header → Records → List ℕ → List ℕ
+pageBy lights d (accepted rs) l = drawnPage lights (d .w) (d .h) (d .background) (drawings (basisOf d) rs) l
+pageBy lights d (refused f place) l = l
 
--- a byte u that some touches leave of the background b is within their bound of the exact blend
-pub record ByteBounded (u b : ℕ) (ts : List Touch) : Type 0 where
-  pub exact-pos : 0 < exactAfter (whole b) ts .den
-  pub bound-pos : 0 < boundOf ts .den
-  pub within : Within (whole u) (exactAfter (whole b) ts) (boundOf ts)
+-- the light of a byte u that some touches leave of the background b is within their bound of the exact blend, from the background's light on
+pub record ByteBounded (lights : List ℕ) (u b : ℕ) (ts : List Touch) : Type 0 where
+  pub exact-pos : 0 < exactAfter lights (whole (lightOf lights b)) ts .den
+  pub bound-pos : 0 < boundOf lights ts .den
+  pub within : Within (whole (lightOf lights u)) (exactAfter lights (whole (lightOf lights b)) ts) (boundOf lights ts)
 
 -- every pixel of the page m is
-unfoldable pub Bounded : Header → Records → List ℕ → Type 0
-Bounded d (accepted rs) m =
-    (x y : ℕ) → x < d .w → y < d .h → ByteBounded (getD m (y * d .w + x) 0) (d .background) (touchesAt (drawings (basisOf d) rs) x y)
-Bounded d (refused f place) m = Unit {0}
+unfoldable pub Bounded : List ℕ → Header → Records → List ℕ → Type 0
+Bounded lights d (accepted rs) m =
+    (x y : ℕ) → x < d .w → y < d .h → ByteBounded lights (getD m (y * d .w + x) 0) (d .background) (touchesAt (drawings (basisOf d) rs) x y)
+Bounded lights d (refused f place) m = Unit {0}
 
--- ---- the list s, drawn on the page l, comes to r and leaves m
+-- ---- the list s, drawn in some lights on the page l, comes to r and leaves m
 
-pub record ClaimBy (d : Header) (x : Records) (l : List ℕ) (r : Outcome) (m : List ℕ) : Type 0 where
+pub record ClaimBy (lights : List ℕ) (d : Header) (x : Records) (l : List ℕ) (r : Outcome) (m : List ℕ) : Type 0 where
   -- W and H are told, or the first refusal and its place
   pub answer : r .answer ≡ answerBy d x
   -- each byte is what blending leaves from the background on; past the page, and after a refusal, each is as it was
-  pub page : m ≡ pageBy d x l
-  -- each byte is no further from the exact, never rounded blend than half a level for each shape that touched the pixel, plus
-  -- 255·s/(4·l) for each of those that was an approximate line
-  pub bound : Bounded d x m
+  pub page : m ≡ pageBy lights d x l
+  -- the light of each byte is no further from the exact, never rounded blend in light than half the widest gap between neighbouring
+  -- lights for each shape that touched the pixel, plus the last light less the first times s/(4·l) for each approximate line among them
+  pub bound : Bounded lights d x m
   -- eight counts are told, each player's own; after a refusal there are none
   pub counts : Counted (d .version) (d .w) (d .h) (drawingsBy d x) (r .touched)
 
-abbrev pub Claim : List ℕ → List ℕ → Outcome → List ℕ → Type 0
-Claim s l = ClaimBy (headerAt s) (pageRecords s (length l)) l
+abbrev pub Claim : List ℕ → List ℕ → List ℕ → Outcome → List ℕ → Type 0
+Claim lights s l = ClaimBy lights (headerAt s) (pageRecords s (length l) lights) l
 
 -- what comes of the list, and the page that it leaves, by themselves
 abbrev pub outcomeBy : Header → Records → Outcome
 outcomeBy d x = record { answer = answerBy d x; touched = playerCounts (shapesCount (d .w) (d .h)) (drawingsBy d x) }
 
-abbrev pub listOutcome : List ℕ → List ℕ → Outcome
-listOutcome s l = outcomeBy (headerAt s) (pageRecords s (length l))
+abbrev pub listOutcome : List ℕ → List ℕ → List ℕ → Outcome
+listOutcome lights s l = outcomeBy (headerAt s) (pageRecords s (length l) lights)
 
-abbrev pub listPage : List ℕ → List ℕ → List ℕ
-listPage s l = pageBy (headerAt s) (pageRecords s (length l)) l
+abbrev pub listPage : List ℕ → List ℕ → List ℕ → List ℕ
+listPage lights s l = pageBy lights (headerAt s) (pageRecords s (length l) lights) l

@@ -3,4 +3,5 @@ pub mod Touches
 pub mod Page
 pub mod Counts
 pub mod Claim
+pub mod Codes
 pub mod inner

@@ -9,5 +9,5 @@ use Rattle.lists.specs.Drawing.{Drawing}
 use Rattle.drawing.specs.Touches.{touchesAt}
 
 -- byte y·w + x is what the touches of (x, y) leave of the background b; each byte past w·h is kept
-unfoldable pub drawnPage : ℕ → ℕ → ℕ → List Drawing → List ℕ → List ℕ
-drawnPage w h b ds = over (λ k u. cond (ltb k (w * h)) (byteAfter b (touchesAt ds (k % w) (k / w))) u)
+unfoldable pub drawnPage : List ℕ → ℕ → ℕ → ℕ → List Drawing → List ℕ → List ℕ
+drawnPage lights w h b ds = over (λ k u. cond (ltb k (w * h)) (byteAfter lights b (touchesAt ds (k % w) (k / w))) u)

@@ -49,14 +49,14 @@ unfoldable pub coverageAsked : Taken → ℤ → ℤ → Answer
 coverageAsked (Known s) x y = queried s (coordinateOf x) (coordinateOf y)
 coverageAsked Unknown x y = Refused unknownKind
 
--- a shape drawn by the numbers of C on a page of so many bytes, and the page after it
-unfoldable pub shapeDrawn : ℕ → ℕ → ℕ → GivenClip → Taken → Outcome
-shapeDrawn w h size c (Known s) = shapeOutcome (unsignedOf w) (unsignedOf h) size (clipOf c) s
-shapeDrawn w h size c Unknown = DrawRefused unknownKind
+-- a shape drawn by the numbers of C on a page of so many bytes in some lights, and the page after it
+unfoldable pub shapeDrawn : ℕ → ℕ → ℕ → List ℕ → GivenClip → Taken → Outcome
+shapeDrawn w h size lights c (Known s) = shapeOutcome (unsignedOf w) (unsignedOf h) size lights (clipOf c) s
+shapeDrawn w h size lights c Unknown = DrawRefused unknownKind
 
-unfoldable pub pageDrawn : ℕ → ℕ → GivenClip → ℕ → Taken → List ℕ → List ℕ
-pageDrawn w h c v (Known s) l = shapePage (unsignedOf w) (unsignedOf h) (clipOf c) v s l
-pageDrawn w h c v Unknown l = l
+unfoldable pub pageDrawn : ℕ → ℕ → List ℕ → GivenClip → ℕ → Taken → List ℕ → List ℕ
+pageDrawn w h lights c v (Known s) l = shapePage (unsignedOf w) (unsignedOf h) lights (clipOf c) v s l
+pageDrawn w h lights c v Unknown l = l
 
 -- the last column by the numbers of C; only the kinds 3 and 4, the lines, have columns
 unfoldable pub columnAsked : ℕ → ℕ → GivenClip → GivenShape → Reach

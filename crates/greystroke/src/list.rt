@@ -186,10 +186,10 @@ pub extern "C" fn greystroke_read_record(list: &[u8], basis: GivenBasis) -> Read
     read_answer(lists::read::read_record(list, basis_of(basis)))
 }
 
-// Checks a whole list for a page of so many bytes.
+// Checks a whole list for a page of so many bytes in 256 lights.
 #[no_mangle]
-pub extern "C" fn greystroke_check_list(list: &[u8], page: usize) -> CheckAnswer
-    ensures { λ r. ⌜ r ≡ checkAnswer (checkedOf (now (list .entry)) page) ⌝ }
+pub extern "C" fn greystroke_check_list(list: &[u8], page: usize, lights: &[u16]) -> CheckAnswer
+    ensures { λ r. ⌜ r ≡ checkAnswer (checkedOf (now (list .entry)) page (now (lights .entry))) ⌝ }
 {
-    check_answer(lists::check::check_list(list, page))
+    check_answer(lists::check::check_list(list, page, lights))
 }

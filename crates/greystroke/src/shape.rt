@@ -42,12 +42,13 @@ fn draw(
     page: &mut [u8],
     w: u32,
     h: u32,
+    lights: &[u16],
     clip: GivenClip,
     level: u8,
     shape: GivenShape,
 ) -> draw::Outcome
-    ensures { λ r. ⌜ r ≡ shapeDrawn w h (length (now (page .entry))) clip (takenOf shape) ⌝ }
-    ensures { λ r. ⌜ now (page .exit) ≡ pageDrawn w h clip level (takenOf shape) (now (page .entry)) ⌝ }
+    ensures { λ r. ⌜ r ≡ shapeDrawn w h (length (now (page .entry))) (now (lights .entry)) clip (takenOf shape) ⌝ }
+    ensures { λ r. ⌜ now (page .exit) ≡ pageDrawn w h (now (lights .entry)) clip level (takenOf shape) (now (page .entry)) ⌝ }
 {
     let width = unsigned(w);
     let height = unsigned(h);
@@ -59,28 +60,30 @@ fn draw(
             page,
             width,
             height,
+            lights,
             kept,
             level,
             line_of(kind == 3, numbers),
         ),
-        5 => draw::draw_disc(page, width, height, kept, level, disc_of(numbers)),
-        6 => draw::draw_ring(page, width, height, kept, level, ring_of(numbers)),
+        5 => draw::draw_disc(page, width, height, lights, kept, level, disc_of(numbers)),
+        6 => draw::draw_ring(page, width, height, lights, kept, level, ring_of(numbers)),
         _ => draw::Outcome::Refused(4),
     }
 }
 
-// Draws a shape inside a clip.
+// Draws a shape inside a clip in 256 lights.
 #[no_mangle]
 pub extern "C" fn greystroke_draw_shape(
     page: &mut [u8],
     w: u32,
     h: u32,
+    lights: &[u16],
     clip: GivenClip,
     level: u8,
     shape: GivenShape,
 ) -> DrawAnswer
-    ensures { λ r. ⌜ r ≡ drawn (shapeDrawn w h (length (now (page .entry))) clip (takenOf shape)) ⌝ }
-    ensures { λ r. ⌜ now (page .exit) ≡ pageDrawn w h clip level (takenOf shape) (now (page .entry)) ⌝ }
+    ensures { λ r. ⌜ r ≡ drawn (shapeDrawn w h (length (now (page .entry))) (now (lights .entry)) clip (takenOf shape)) ⌝ }
+    ensures { λ r. ⌜ now (page .exit) ≡ pageDrawn w h (now (lights .entry)) clip level (takenOf shape) (now (page .entry)) ⌝ }
 {
-    draw_answer(draw(page, w, h, clip, level, shape))
+    draw_answer(draw(page, w, h, lights, clip, level, shape))
 }

@@ -40,11 +40,12 @@ fn list_answer(outcome: Outcome) -> ListAnswer
     }
 }
 
-// Draws a list.
+// Draws a list in 256 lights.
 #[no_mangle]
-pub extern "C" fn greystroke_draw_list(page: &mut [u8], list: &[u8]) -> ListAnswer
-    ensures { λ r. ⌜ r ≡ listAnswered (listOutcome (now (list .entry)) (now (page .entry))) ⌝ }
-    ensures { λ r. ⌜ Claim (now (list .entry)) (now (page .entry)) (listOutcome (now (list .entry)) (now (page .entry))) (now (page .exit)) ⌝ }
+pub extern "C" fn greystroke_draw_list(page: &mut [u8], lights: &[u16], list: &[u8]) -> ListAnswer
+    ensures { λ r. ⌜ r ≡ listAnswered (listOutcome (now (lights .entry)) (now (list .entry)) (now (page .entry))) ⌝ }
+    ensures { λ r. ⌜ Claim (now (lights .entry)) (now (list .entry)) (now (page .entry))
+        (listOutcome (now (lights .entry)) (now (list .entry)) (now (page .entry))) (now (page .exit)) ⌝ }
 {
-    list_answer(drawing::draw_list(page, list))
+    list_answer(drawing::draw_list(page, lights, list))
 }

@@ -2,19 +2,13 @@
 use mathlib.Core.Bool.{true}
 use mathlib.Core.Path.{_≡_, sym, ap, _∙_}
 use mathlib.Core.List.{List}
-use Prim.Native.Nat.{ℕ, _<_}
+use Prim.Native.Nat.{ℕ}
 use lib.ListN.{getD, set}
 use lib.Seq.{set-getD}
-use Rattle.page.specs.Blend.{blend}
-use Rattle.page.specs.inner.Ink.{inkOf}
 use Rattle.page.specs.inner.Paint.{dot}
-use Rattle.page.proofs.Paint.{dot-none, dot-blend}
+use Rattle.page.proofs.Paint.{dot-none}
 use Rattle.lines.specs.inner.Layout.{spotted}
 
 -- coverage 0 leaves it as it was
 pub spotted-none : (ink : ℕ → ℕ → ℕ) (n k : ℕ) (l : List ℕ) → n ≡ 0 → l ≡ spotted true ink n k l
 spotted-none ink n k l e = sym (ap (set l k) (ap (λ (m : ℕ). dot ink m (getD l k 0)) e ∙ dot-none ink (getD l k 0)) ∙ set-getD l k 0)
-
--- a blended byte
-pub spotted-blend : (v d n k : ℕ) (l : List ℕ) → 0 < d → set l k (blend (getD l k 0) v n d) ≡ spotted true (inkOf v d) n k l
-spotted-blend v d n k l h = ap (set l k) (sym (dot-blend v d n (getD l k 0) h))

@@ -13,7 +13,7 @@ use Rattle.coverage.specs.declared.line.Rows.{Rows}
 use Rattle.numbers.proofs.Order.{cond-le}
 use Rattle.coverage.proofs.Closed.{whole-some}
 use Rattle.coverage.proofs.Column.{Filled}
-use Rattle.page.specs.inner.Ink.{Coverage}
+use Rattle.lights.specs.inner.Quotient.{Coverage}
 use Rattle.page.specs.inner.Paint.{Lawful}
 use Rattle.page.specs.declared.View.{View}
 use Rattle.lines.specs.inner.Layout.{alongEnd, Between, edgeBy, Laid}

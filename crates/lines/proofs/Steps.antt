@@ -28,7 +28,7 @@ use Rattle.lines.proofs.Column.{raised-byte, lowered-byte, column-drawn
 use Rattle.lines.proofs.Advance.{advance, byte-least, byte-most}
 use Rattle.lines.proofs.Fits.{Covers, rows-cover, whole-fits, layout-le, along-most}
 
-module _ {s : Stroke} {size : ℕ} {at : Step} (here : Steppable s at size) where
+module _ {palette : List ℕ} {s : Stroke} {size : ℕ} {at : Step} (here : Steppable palette s at size) where
   abbrev f : Frame
   f = s .frame
 

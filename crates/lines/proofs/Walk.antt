@@ -49,10 +49,11 @@ within-next p w h = record { right = omega (arith, w .right); last = omega (arit
 -- ---- columns p to e
 
 -- a part of columns that may be drawn
-pub drawable : {s : Stroke} {size size′ p e : ℕ} (a b : ℕ) → size′ ≡ size → Prepared s size → Between (s .view) (s .frame) p e → p ≤ a → b ≤ e → Drawable s a b size′
-drawable {s} a b same ready w h k =
+pub drawable : {palette : List ℕ} {s : Stroke} {size size′ p e : ℕ} (a b : ℕ) → size′ ≡ size → Prepared palette s size → Between (s .view) (s .frame) p e → p ≤ a → b ≤ e
+    → Drawable palette s a b size′
+drawable {palette} {s} a b same ready w h k =
     record {
-      ready = subst (Prepared s) (sym same) ready;
+      ready = subst (Prepared palette s) (sym same) ready;
       between =
           λ z.
           record {
@@ -63,7 +64,7 @@ drawable {s} a b same ready w h k =
           };
     }
 
-module _ {s : Stroke} {p e size : ℕ} (here : Drawable s p e size) (some : p < e) where
+module _ {palette : List ℕ} {s : Stroke} {p e size : ℕ} (here : Drawable palette s p e size) (some : p < e) where
   between : Between (s .view) (s .frame) p e
   between = here .between some
 
@@ -89,9 +90,9 @@ module _ {s : Stroke} {p e size : ℕ} (here : Drawable s p e size) (some : p < 
   walk-begins is p-is zero = record { is = is; left = omega (arith, between .left); first = omega (arith, between .first); few = omega arith }
 
   -- and where it goes on
-  pub steppable : {ink : ℕ → ℕ → ℕ} {at to : Step} {size′ : ℕ} {l m : List ℕ} → size′ ≡ size → Extended ink s at to l m → to .p < e → Steppable s to size′
+  pub steppable : {ink : ℕ → ℕ → ℕ} {at to : Step} {size′ : ℕ} {l m : List ℕ} → size′ ≡ size → Extended ink s at to l m → to .p < e → Steppable palette s to size′
   steppable {to = to} same x h =
-      record { ready = subst (Prepared s) (sym same) (here .ready); standing = x .standing; within = within-next (to .p) (between .end) h }
+      record { ready = subst (Prepared palette s) (sym same) (here .ready); standing = x .standing; within = within-next (to .p) (between .end) h }
 
   -- rows only rise, so that all columns lie between the first and the last
   pub inner-at : {at : Step} → Inside (s .frame) (s .layout) p e → Standing s at → p ≤ at .p → at .p < e → Inner s at

@@ -8,7 +8,9 @@ ghost use mathlib.Core.Bool.{true};
 ghost use mathlib.Core.Path.{_≡_};
 ghost use Prim.Native.Nat.{_+_, _*_, _-_, _≤_, _<_};
 ghost use lib.ListN.{length};
-ghost use Rattle.page.specs.inner.Ink.{inkOf, Coverage, Reciprocal};
+ghost use Rattle.lights.specs.inner.Quotient.{Coverage};
+ghost use Rattle.lights.specs.inner.Palette.{lightsIn, Palette, Scaled};
+ghost use Rattle.page.specs.inner.Ink.{inkOf};
 ghost use Rattle.lines.specs.inner.Layout.{spotted, counted, columned, columnCount, Reachable};
 ghost use Rattle.lines.specs.inner.Stroke.{At, FirstFits, NextFits, Advanced, Steppable, Inner, Stepped};
 
@@ -81,6 +83,7 @@ fn advanced(lay: Layout, f: Frame, at: Step, t: u64) -> Step
 // Blends byte k − origin of a page at coverage n, where it is shown; hands back how many pixels that touched.
 fn spot(
     page: &mut [u8],
+    palette: &[u16],
     show: bool,
     k: usize,
     origin: usize,
@@ -90,14 +93,14 @@ fn spot(
     m: u64,
 ) -> u64
     requires { ⌜ (show ≡ true → (origin ≤ k) × (k - origin < length (now page))) ⌝ }
-    requires { ⌜ Coverage n d × Reciprocal d m ⌝ }
-    ensures { λ t. ⌜ (now (page .exit) ≡ spotted show (inkOf level d) n (k - origin) (now (page .entry))) × (t ≡ counted show n) × (t ≤ 1) ⌝ }
+    requires { ⌜ Palette (now palette) × Coverage n d × Scaled (now palette) d m ⌝ }
+    ensures { λ t. ⌜ (now (page .exit) ≡ spotted show (inkOf (lightsIn (now (palette .entry))) level d) n (k - origin) (now (page .entry))) × (t ≡ counted show n) × (t ≤ 1) ⌝ }
 {
     if show {
         if n == 0 {
             return 0;
         }
-        page::put(page, k - origin, level, n, d, m);
+        page::put(page, palette, k - origin, level, n, d, m);
         return 1;
     }
     0
@@ -106,6 +109,7 @@ fn spot(
 // Draws the rows of one column that the clip keeps; hands back how many pixels they touched.
 fn draw_column(
     page: &mut [u8],
+    palette: &[u16],
     lay: Layout,
     k: usize,
     g: usize,
@@ -115,13 +119,14 @@ fn draw_column(
     m: u64,
 ) -> u64
     requires { ⌜ Reachable lay k g (length (now page)) ⌝ }
-    requires { ⌜ Coverage (rows .upper) d × Coverage (rows .middle) d × Coverage (rows .lower) d × Reciprocal d m ⌝ }
-    ensures { λ t. ⌜ now (page .exit) ≡ columned lay (inkOf level d) rows k g (now (page .entry)) ⌝ }
+    requires { ⌜ Palette (now palette) × Coverage (rows .upper) d × Coverage (rows .middle) d × Coverage (rows .lower) d × Scaled (now palette) d m ⌝ }
+    ensures { λ t. ⌜ now (page .exit) ≡ columned lay (inkOf (lightsIn (now (palette .entry))) level d) rows k g (now (page .entry)) ⌝ }
     ensures { λ t. ⌜ (t ≡ columnCount lay rows g) × (t ≤ 3) ⌝ }
 {
     let origin = lay.origin;
     let a = spot(
         page,
+        palette,
         layout::is_shown(lay, g + 1),
         layout::byte_above(lay, k),
         origin,
@@ -132,6 +137,7 @@ fn draw_column(
     );
     let b = spot(
         page,
+        palette,
         layout::is_shown(lay, g),
         k,
         origin,
@@ -142,6 +148,7 @@ fn draw_column(
     );
     let c = spot(
         page,
+        palette,
         layout::is_shown(lay, g - 1),
         layout::byte_below(lay, k),
         origin,
@@ -154,22 +161,34 @@ fn draw_column(
 }
 
 // Draws the column where a walk stands, under the clip, and goes on to the next.
-pub(crate) fn step_clipped(page: &mut [u8], s: Stroke, at: Step) -> Step
-    requires { ⌜ Steppable s at (length (now page)) ⌝ }
-    ensures { λ to. ⌜ Stepped (inkOf (s .level) (s .d)) s at to (now (page .entry)) (now (page .exit)) ⌝ }
+pub(crate) fn step_clipped(page: &mut [u8], palette: &[u16], s: Stroke, at: Step) -> Step
+    requires { ⌜ Steppable (now palette) s at (length (now page)) ⌝ }
+    ensures { λ to. ⌜ Stepped (inkOf (lightsIn (now (palette .entry))) (s .level) (s .d)) s at to (now (page .entry)) (now (page .exit)) ⌝ }
 {
     let f = s.frame;
     let lay = s.layout;
     let line = s.line;
     let rows = coverage::line::rows_of(line.exact, f.l, f.s, at.r, s.d);
-    let t = draw_column(page, lay, at.k, at.g, rows, s.level, s.d, s.m);
+    let t = draw_column(page, palette, lay, at.k, at.g, rows, s.level, s.d, s.m);
     advanced(lay, f, at, t)
 }
 
-// Draws a column inside the clip that has two rows, and goes on to the next, in the same row.
-fn step_flat(page: &mut [u8], s: Stroke, at: Step) -> Step
-    requires { ⌜ Steppable s at (length (now page)) × Inner s at × (at .r + 2 * s .frame .s < 2 * s .frame .l) ⌝ }
-    ensures { λ to. ⌜ Stepped (inkOf (s .level) (s .d)) s at to (now (page .entry)) (now (page .exit)) ⌝ }
+// Blends byte k of a page at coverage n, unless that is 0, in lights at even steps; hands back how many pixels that touched.
+fn spot_even(page: &mut [u8], palette: &[u16], k: usize, level: u8, n: u64, d: u64, m: u64) -> u64
+    requires { ⌜ (k < length (now page)) × Palette (now palette) × (length (now palette) ≡ 256) × Coverage n d × Scaled (now palette) d m ⌝ }
+    ensures { λ t. ⌜ (now (page .exit) ≡ spotted true (inkOf (lightsIn (now (palette .entry))) level d) n k (now (page .entry))) × (t ≡ counted true n) × (t ≤ 1) ⌝ }
+{
+    if n == 0 {
+        return 0;
+    }
+    page::put_even(page, palette, k, level, n, d, m);
+    1
+}
+
+// Draws a column inside the clip that has two rows, in lights at even steps, and goes on to the next, in the same row.
+fn step_flat(page: &mut [u8], palette: &[u16], s: Stroke, at: Step) -> Step
+    requires { ⌜ Steppable (now palette) s at (length (now page)) × (length (now palette) ≡ 256) × Inner s at × (at .r + 2 * s .frame .s < 2 * s .frame .l) ⌝ }
+    ensures { λ to. ⌜ Stepped (inkOf (lightsIn (now (palette .entry))) (s .level) (s .d)) s at to (now (page .entry)) (now (page .exit)) ⌝ }
 {
     let f = s.frame;
     let lay = s.layout;
@@ -177,15 +196,15 @@ fn step_flat(page: &mut [u8], s: Stroke, at: Step) -> Step
     let rows = coverage::line::flat_rows(line.exact, f.l, f.s, at.r, s.d);
     let origin = lay.origin;
     let below = layout::byte_below(lay, at.k);
-    page::put(page, at.k - origin, s.level, rows.middle, s.d, s.m);
-    page::put(page, below - origin, s.level, rows.lower, s.d, s.m);
+    page::put_even(page, palette, at.k - origin, s.level, rows.middle, s.d, s.m);
+    page::put_even(page, palette, below - origin, s.level, rows.lower, s.d, s.m);
     advanced(lay, f, at, 2)
 }
 
-// Draws a column inside the clip that has three rows, or two with t = 0, and goes on to the next, one row further.
-fn step_crossed(page: &mut [u8], s: Stroke, at: Step) -> Step
-    requires { ⌜ Steppable s at (length (now page)) × Inner s at × (2 * s .frame .l ≤ at .r + 2 * s .frame .s) ⌝ }
-    ensures { λ to. ⌜ Stepped (inkOf (s .level) (s .d)) s at to (now (page .entry)) (now (page .exit)) ⌝ }
+// Draws a column inside the clip that has three rows, or two with t = 0, in lights at even steps, and goes on to the next, one row further.
+fn step_crossed(page: &mut [u8], palette: &[u16], s: Stroke, at: Step) -> Step
+    requires { ⌜ Steppable (now palette) s at (length (now page)) × (length (now palette) ≡ 256) × Inner s at × (2 * s .frame .l ≤ at .r + 2 * s .frame .s) ⌝ }
+    ensures { λ to. ⌜ Stepped (inkOf (lightsIn (now (palette .entry))) (s .level) (s .d)) s at to (now (page .entry)) (now (page .exit)) ⌝ }
 {
     let f = s.frame;
     let lay = s.layout;
@@ -194,21 +213,51 @@ fn step_crossed(page: &mut [u8], s: Stroke, at: Step) -> Step
     let origin = lay.origin;
     let above = layout::byte_above(lay, at.k);
     let below = layout::byte_below(lay, at.k);
-    let t = spot(page, true, above, origin, s.level, rows.upper, s.d, s.m);
-    page::put(page, at.k - origin, s.level, rows.middle, s.d, s.m);
-    page::put(page, below - origin, s.level, rows.lower, s.d, s.m);
+    let t = spot_even(page, palette, above - origin, s.level, rows.upper, s.d, s.m);
+    page::put_even(page, palette, at.k - origin, s.level, rows.middle, s.d, s.m);
+    page::put_even(page, palette, below - origin, s.level, rows.lower, s.d, s.m);
     advanced(lay, f, at, t + 2)
 }
 
-// Draws the column where a walk stands, which lies inside the clip, and goes on to the next.
-pub(crate) fn step_inside(page: &mut [u8], s: Stroke, at: Step) -> Step
-    requires { ⌜ Steppable s at (length (now page)) × Inner s at ⌝ }
-    ensures { λ to. ⌜ Stepped (inkOf (s .level) (s .d)) s at to (now (page .entry)) (now (page .exit)) ⌝ }
+// Draws the column where a walk stands, which lies inside the clip, in lights at even steps, and goes on to the next.
+pub(crate) fn step_even(page: &mut [u8], palette: &[u16], s: Stroke, at: Step) -> Step
+    requires { ⌜ Steppable (now palette) s at (length (now page)) × (length (now palette) ≡ 256) × Inner s at ⌝ }
+    ensures { λ to. ⌜ Stepped (inkOf (lightsIn (now (palette .entry))) (s .level) (s .d)) s at to (now (page .entry)) (now (page .exit)) ⌝ }
 {
     let f = s.frame;
     if at.r + 2 * f.s < 2 * f.l {
-        step_flat(page, s, at)
+        step_flat(page, palette, s, at)
     } else {
-        step_crossed(page, s, at)
+        step_crossed(page, palette, s, at)
     }
+}
+
+// Blends byte k of a page at coverage n, unless that is 0, in lights not at even steps; hands back how many pixels that touched.
+fn spot_uneven(page: &mut [u8], palette: &[u16], k: usize, level: u8, n: u64, d: u64, m: u64) -> u64
+    requires { ⌜ (k < length (now page)) × Palette (now palette) × (length (now palette) ≡ 256 → ⊥) × Coverage n d × Scaled (now palette) d m ⌝ }
+    ensures { λ t. ⌜ (now (page .exit) ≡ spotted true (inkOf (lightsIn (now (palette .entry))) level d) n k (now (page .entry))) × (t ≡ counted true n) × (t ≤ 1) ⌝ }
+{
+    if n == 0 {
+        return 0;
+    }
+    page::put_uneven(page, palette, k, level, n, d, m);
+    1
+}
+
+// Draws the column where a walk stands, which lies inside the clip, in lights not at even steps, and goes on to the next.
+pub(crate) fn step_uneven(page: &mut [u8], palette: &[u16], s: Stroke, at: Step) -> Step
+    requires { ⌜ Steppable (now palette) s at (length (now page)) × (length (now palette) ≡ 256 → ⊥) × Inner s at ⌝ }
+    ensures { λ to. ⌜ Stepped (inkOf (lightsIn (now (palette .entry))) (s .level) (s .d)) s at to (now (page .entry)) (now (page .exit)) ⌝ }
+{
+    let f = s.frame;
+    let lay = s.layout;
+    let line = s.line;
+    let rows = coverage::line::rows_of(line.exact, f.l, f.s, at.r, s.d);
+    let origin = lay.origin;
+    let above = layout::byte_above(lay, at.k);
+    let below = layout::byte_below(lay, at.k);
+    let t = spot_uneven(page, palette, above - origin, s.level, rows.upper, s.d, s.m);
+    page::put_uneven(page, palette, at.k - origin, s.level, rows.middle, s.d, s.m);
+    page::put_uneven(page, palette, below - origin, s.level, rows.lower, s.d, s.m);
+    advanced(lay, f, at, t + 2)
 }

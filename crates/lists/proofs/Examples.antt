@@ -1,9 +1,10 @@
 -- The list that the rules print, and its damaged copies, by computation.
 use mathlib.Core.Path.{_≡_, refl}
-use mathlib.Core.Bool.{true}
+use mathlib.Core.Bool.{true, false}
 use mathlib.Core.List.{List, [], _∷_, _++_}
 use Prim.Native.Nat.{ℕ}
 use lib.IntN.{pos}
+use Rattle.lights.specs.Lights.{fit}
 use Rattle.shapes.specs.Limits.{sizeRefusal, basisRefusal, offSize, playerRefusal, shapeRefusal, offRange, refusalsOf, recordRefusal}
 use Rattle.shapes.specs.declared.Shape.the-variants.{Line as line}
 use Rattle.shapes.specs.declared.Setting.the-variants.{Player as player}
@@ -29,19 +30,28 @@ abbrev point : List ℕ
 point = 3 ∷ 1 ∷ 0 ∷ 1 ∷ 0 ∷ 1 ∷ 0 ∷ 1 ∷ 0 ∷ []
 
 -- as it stands; on a page that is too short; without an end record; with a surplus byte; with a refusal and a surplus byte
-worked : (pageRecords (start 1 ++ stroke ++ 0 ∷ []) 12 ≡ accepted (line-record ∷ end ∷ []))
-    × (pageRecords (start 1 ++ stroke ++ 0 ∷ []) 11 ≡ refused 21 0)
-    × (pageRecords (start 1 ++ stroke) 12 ≡ refused 5 19)
-    × (pageRecords (start 1 ++ stroke ++ 0 ∷ 0 ∷ []) 12 ≡ refused 6 20)
-    × (pageRecords (start 1 ++ point ++ 0 ∷ 0 ∷ []) 12 ≡ refused 9 10)
+worked : (lights : List ℕ) → fit lights ≡ true
+    → (pageRecords (start 1 ++ stroke ++ 0 ∷ []) 12 lights ≡ accepted (line-record ∷ end ∷ []))
+    × (pageRecords (start 1 ++ stroke ++ 0 ∷ []) 11 lights ≡ refused 21 0)
+    × (pageRecords (start 1 ++ stroke) 12 lights ≡ refused 5 19)
+    × (pageRecords (start 1 ++ stroke ++ 0 ∷ 0 ∷ []) 12 lights ≡ refused 6 20)
+    × (pageRecords (start 1 ++ point ++ 0 ∷ 0 ∷ []) 12 lights ≡ refused 9 10)
 unfolding sizeRefusal basisRefusal offSize shapeRefusal offRange refusalsOf recordRefusal kindSize decoded readRefusal headerRefusal recordsFrom recordsOf
-worked = (refl, refl, refl, refl, refl)
+worked lights e = (rw e refl, refl, rw e refl, rw e refl, rw e refl)
 
 -- a player in version 2; in version 1; above 7; cut short; and a version that there is not
-players : (pageRecords (start 2 ++ 7 ∷ 3 ∷ stroke ++ 0 ∷ []) 12 ≡ accepted (setting (player 3) ∷ line-record ∷ end ∷ []))
-    × (pageRecords (start 1 ++ 7 ∷ 3 ∷ stroke ++ 0 ∷ []) 12 ≡ refused 4 10)
-    × (pageRecords (start 2 ++ 7 ∷ 8 ∷ stroke ++ 0 ∷ []) 12 ≡ refused 31 10)
-    × (pageRecords (start 2 ++ 7 ∷ []) 12 ≡ refused 5 10)
-    × (pageRecords (start 3 ++ 7 ∷ 3 ∷ stroke ++ 0 ∷ []) 12 ≡ refused 2 0)
+players : (lights : List ℕ) → fit lights ≡ true
+    → (pageRecords (start 2 ++ 7 ∷ 3 ∷ stroke ++ 0 ∷ []) 12 lights ≡ accepted (setting (player 3) ∷ line-record ∷ end ∷ []))
+    × (pageRecords (start 1 ++ 7 ∷ 3 ∷ stroke ++ 0 ∷ []) 12 lights ≡ refused 4 10)
+    × (pageRecords (start 2 ++ 7 ∷ 8 ∷ stroke ++ 0 ∷ []) 12 lights ≡ refused 31 10)
+    × (pageRecords (start 2 ++ 7 ∷ []) 12 lights ≡ refused 5 10)
+    × (pageRecords (start 3 ++ 7 ∷ 3 ∷ stroke ++ 0 ∷ []) 12 lights ≡ refused 2 0)
 unfolding sizeRefusal basisRefusal offSize playerRefusal shapeRefusal offRange refusalsOf recordRefusal kindSize decoded readRefusal headerRefusal recordsFrom recordsOf
-players = (refl, refl, refl, refl, refl)
+players lights e = (rw e refl, rw e refl, rw e refl, rw e refl, refl)
+
+-- in lights that are not fit: on a page that is too short, and on one that is not; before every record
+unfit : (lights : List ℕ) → fit lights ≡ false
+    → (pageRecords (start 1 ++ point ++ 0 ∷ []) 11 lights ≡ refused 21 0)
+    × (pageRecords (start 1 ++ point ++ 0 ∷ []) 12 lights ≡ refused 32 0)
+unfolding sizeRefusal basisRefusal offSize headerRefusal recordsOf
+unfit lights e = (refl, rw e refl)

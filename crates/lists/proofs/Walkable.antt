@@ -1,10 +1,13 @@
 -- The records of an accepted list can be walked over.
 use mathlib.Core.Path.{_≡_, sym, _∙_, ap, subst}
-use mathlib.Core.Bool.{Bool}
+use mathlib.Core.Bool.{Bool, not}
 use mathlib.Core.List.{List}
 use Prim.Native.Nat.{ℕ, _*_, _≤_}
 use borrow.Author.Tests.{ltb-false}
 use lib.Dec.{ltb}
+use Rattle.lights.specs.Lights.{fit}
+use Rattle.lights.specs.inner.Fit.{Fit}
+use Rattle.lights.proofs.Rising.{fit-passed}
 use Rattle.shapes.proofs.Limits.{clear}
 use Rattle.shapes.specs.declared.Record.{Record}
 use Rattle.lists.specs.Format.{headerAt, basisOf}
@@ -39,13 +42,20 @@ module _ {tests : List (Bool × ℕ)} {s : List ℕ} {d : Header} (p : AcceptedA
       ap (λ (x : Records). drawings (basisOf d) (recordsIn x))
       (subst (λ (q : Header). listRecords (basisOf q) s ≡ accepted (p .records)) (sym (p .header)) (records-are tests s (p .records) (p .is)))
 
--- ---- for a page of n bytes: it has the room
+-- ---- for a page of n bytes, which has the room
 
-module _ (s : List ℕ) (n : ℕ) (d : Header) (e : Accepted d ≡ checkedOf s n) where
-  pub found : AcceptedAs (pageTests (headerAt s) n) s d
-  found = checked-accepted (pageTests (headerAt s) n) s d (sym e)
+module _ (s : List ℕ) (n : ℕ) (lights : List ℕ) (d : Header) (e : Accepted d ≡ checkedOf s n lights) where
+  pub found : AcceptedAs (pageTests (headerAt s) n lights) s d
+  found = checked-accepted (pageTests (headerAt s) n lights) s d (sym e)
 
   pub room : d .w * d .h ≤ n
   room =
       let passed = headed _ s (list-headed _ s (found .records) (found .is)) .passed in
-      rw (found .header) (ltb-false _ _ (clear (ltb n (headerAt s .w * headerAt s .h)) 20 0 passed .0))
+      rw (found .header) (ltb-false _ _ (clear (ltb n (headerAt s .w * headerAt s .h)) 20 _ passed .0))
+
+  -- and the lights are fit
+  pub lit : Fit lights
+  lit =
+      let passed = headed _ s (list-headed _ s (found .records) (found .is)) .passed in
+      let room = clear (ltb n (headerAt s .w * headerAt s .h)) 20 _ passed in
+      fit-passed lights (clear (not (fit lights)) 31 0 (room .1) .0)

@@ -4,6 +4,7 @@ use mathlib.Core.List.{List, [], _∷_}
 use Prim.Native.Nat.{ℕ, zero, suc, _+_, _*_}
 use lib.Dec.{ltb, eqb}
 use lib.ListN.{length, getD, drop}
+use Rattle.lights.specs.Lights.{fit}
 use Rattle.shapes.specs.Limits.{first, tried, basisRefusal}
 use Rattle.shapes.specs.declared.Basis.{Basis}
 use Rattle.shapes.specs.declared.Record.{Record}
@@ -34,9 +35,9 @@ headerRefusal tests s =
     ∷ tried (basisRefusal (basisOf (headerAt s)))
     ∷ tests)
 
--- the tests of a page of n bytes. 21: it has fewer than W·H
-abbrev pub pageTests : Header → ℕ → List (Bool × ℕ)
-pageTests d n = (ltb n (d .w * d .h), 21) ∷ []
+-- the tests of a page of n bytes and of lights. 21: the page has fewer than W·H; 32: the lights are not fit
+abbrev pub pageTests : Header → ℕ → List ℕ → List (Bool × ℕ)
+pageTests d n lights = (ltb n (d .w * d .h), 21) ∷ (not (fit lights), 32) ∷ []
 
 -- r in front of the records that follow it
 abbrev pub onto : Record → Records → Records
@@ -68,9 +69,9 @@ abbrev pub checkedAs : Header → Records → Checked
 checkedAs d (accepted rs) = Accepted d
 checkedAs d (refused f place) = Refused f place
 
--- a list s for a page of n bytes
-abbrev pub pageRecords : List ℕ → ℕ → Records
-pageRecords s n = recordsOf (pageTests (headerAt s) n) s
+-- a list s for a page of n bytes in some lights
+abbrev pub pageRecords : List ℕ → ℕ → List ℕ → Records
+pageRecords s n lights = recordsOf (pageTests (headerAt s) n lights) s
 
-abbrev pub checkedOf : List ℕ → ℕ → Checked
-checkedOf s n = checkedAs (headerAt s) (pageRecords s n)
+abbrev pub checkedOf : List ℕ → ℕ → List ℕ → Checked
+checkedOf s n lights = checkedAs (headerAt s) (pageRecords s n lights)

@@ -1,8 +1,9 @@
 // Checks a whole list.
 ghost use mathlib.Core.Path.{_≡_};
-ghost use mathlib.Core.List.{[]};
-ghost use Prim.Native.Nat.{suc, _≤_};
+ghost use mathlib.Core.List.{List, []};
+ghost use Prim.Native.Nat.{ℕ, suc, _≤_};
 ghost use lib.ListN.{length, drop};
+ghost use Rattle.lights.specs.inner.Fit.{IsKind};
 ghost use Rattle.shapes.specs.Limits.{first, basisRefusal};
 ghost use Rattle.lists.specs.Format.{headerSize, basisOf};
 ghost use Rattle.lists.specs.List.{hasMark, headerRefusal, pageTests, recordsFrom, checkedAs, checkedOf};
@@ -13,6 +14,8 @@ use super::format::basis_of;
 use super::format::read_header;
 use super::read::front_refusal;
 use super::read::next_place;
+use lights::fit::Kind;
+use lights::fit::kind_of;
 
 // What the check answers: the header of an accepted list, or the number of the refusal and its place.
 pub enum Checked {
@@ -34,12 +37,15 @@ fn has_mark(list: &[u8]) -> bool
     list[2] == b'K'
 }
 
-// The first refusal of a page of so many bytes, 21, or 0.
-fn page_refusal(header: Header, page: usize) -> u8
-    ensures { λ r. ⌜ r ≡ first (pageTests header page) ⌝ }
+// The first refusal of a page of so many bytes and of lights of a kind, 21 or 32, or 0.
+fn page_refusal(header: Header, page: usize, kind: Kind) -> u8
+    ensures { λ r. ⌜ ((lights : List ℕ) → IsKind lights kind → r ≡ first (pageTests header page lights)) ⌝ }
 {
     if (page as u64) < numbers::product(header.w as u64, header.h as u64) {
         return 21;
+    }
+    if !kind.fit {
+        return 32;
     }
     0
 }
@@ -83,16 +89,17 @@ fn check_records(list: &[u8], header: Header) -> Checked
     }
 }
 
-// Checks a list for a page of so many bytes.
-pub fn check_list(list: &[u8], page: usize) -> Checked
-    ensures { λ r. ⌜ r ≡ checkedOf (now (list .entry)) page ⌝ }
+// Checks a list for a page of so many bytes and for lights that have been tried: their kind is known, and they are not read.
+pub fn check_tried(list: &[u8], page: usize, lights: &[u16], kind: Kind) -> Checked
+    requires { ⌜ IsKind (now lights) kind ⌝ }
+    ensures { λ r. ⌜ r ≡ checkedOf (now (list .entry)) page (now (lights .entry)) ⌝ }
 {
     let refusal = header_refusal(list);
     if 0 < refusal {
         return Checked::Refused { refusal, place: 0 };
     }
     let header = read_header(list);
-    let room = page_refusal(header, page);
+    let room = page_refusal(header, page, kind);
     if 0 < room {
         return Checked::Refused {
             refusal: room,
@@ -100,4 +107,11 @@ pub fn check_list(list: &[u8], page: usize) -> Checked
         };
     }
     check_records(list, header)
+}
+
+// Checks a list for a page of so many bytes in some lights.
+pub fn check_list(list: &[u8], page: usize, lights: &[u16]) -> Checked
+    ensures { λ r. ⌜ r ≡ checkedOf (now (list .entry)) page (now (lights .entry)) ⌝ }
+{
+    check_tried(list, page, lights, kind_of(lights))
 }

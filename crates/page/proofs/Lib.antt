@@ -1,5 +1,4 @@
 -- Laws that the proofs of this crate and of those above it cite.
-pub mod Blend
 pub mod Over
 pub mod Clip
 pub mod Clamp

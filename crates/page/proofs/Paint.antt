@@ -11,11 +11,12 @@ use borrow.Author.Tests.{lt-ltb}
 use lib.ListN.{length, getD, take, drop, set}
 use borrow.Rule.Slice.PartMut.{putMid}
 use Rattle.numbers.proofs.Order.{lt-or-le}
-use Rattle.page.specs.Blend.{blend}
+use Rattle.lights.specs.Blend.{blend}
+use Rattle.lights.specs.inner.Fit.{Fit}
+use Rattle.lights.proofs.Blend.{blend-none}
 use Rattle.page.specs.inner.Ink.{inkOf}
 use Rattle.page.specs.Page.{over}
 use Rattle.page.specs.inner.Paint.{dot, clipped, painted}
-use Rattle.page.proofs.Blend.{blend-none}
 use Rattle.page.proofs.Over.{length-over, over-same, over-ext, over-over, over-set, over-part}
 use Rattle.page.proofs.Clip.{Outside, left-of, right-of, above, below, clip-in, clip-out, Either, Join}
 
@@ -48,13 +49,13 @@ dot-none ink u = refl
 dot-zero : (ink : ℕ → ℕ → ℕ) (n u : ℕ) → n ≡ 0 → u ≡ dot ink n u
 dot-zero ink n u e = sym (ap (λ (c : ℕ). dot ink c u) e ∙ dot-none ink u)
 
--- a blend needs no test of the coverage, since coverage 0 keeps the byte
-pub dot-blend : (v d n u : ℕ) → 0 < d → dot (inkOf v d) n u ≡ blend u v n d
+-- a blend needs no test of the coverage, since coverage 0 keeps a byte
+pub dot-blend : (lights : List ℕ) (v d n u : ℕ) → Fit lights → u ≤ 255 → 0 < d → dot (inkOf lights v d) n u ≡ blend lights u v n d
 unfolding dot
-dot-blend v d n u h =
+dot-blend lights v d n u fit byte some =
     ⊎-elim
-    (λ z. ap (λ (t : Bool). cond t (blend u v n d) u) (lt-ltb 0 n z))
-    (λ z. let e : n ≡ 0 = omega arith in rw e (sym (blend-none u v d h)))
+    (λ z. ap (λ (t : Bool). cond t (blend lights u v n d) u) (lt-ltb 0 n z))
+    (λ z. let e : n ≡ 0 = omega arith in rw e (sym (blend-none lights fit u v d byte some)))
     (lt-or-le 0 n)
 
 -- a whole coverage gives the level

@@ -1,4 +1,3 @@
--- Blending, and the bytes of a page.
-pub mod Blend
+-- The bytes of a page.
 pub mod Page
 pub mod inner

@@ -1,11 +1,12 @@
-// Blending, and what is drawn on a lent page.
+// What is drawn on a lent page.
 ghost use mathlib.Core.Path.{_≡_};
-ghost use Prim.Native.Nat.{_+_, _-_, _*_, _^_, _/_, _≤_, _<_};
+ghost use Prim.Native.Nat.{_+_, _-_, _*_, _≤_, _<_};
 ghost use lib.ListN.{length, getD, set};
-ghost use Rattle.page.specs.Blend.{blend};
-ghost use Rattle.page.specs.inner.Ink.{Coverage, Reciprocal, Dividend};
+ghost use Rattle.lights.specs.inner.Quotient.{Coverage};
+ghost use Rattle.lights.specs.inner.Palette.{lightsIn, Palette, Scaled};
+ghost use Rattle.page.specs.inner.Ink.{inkOf};
 ghost use Rattle.page.specs.Page.{over};
-ghost use Rattle.page.specs.inner.Paint.{touch, Lawful, Filled, clamped};
+ghost use Rattle.page.specs.inner.Paint.{dot, touch, Lawful, Filled, clamped};
 
 // The width and height of a page, and a clip on it.
 pub struct View {
@@ -17,73 +18,68 @@ pub struct View {
     pub y1: usize,
 }
 
-// The reciprocal of the blends over d.
-pub fn reciprocal(d: u64) -> u64
-    requires { ⌜ (0 < d) × (d ≤ 2 ^ 30) ⌝ }
-    ensures { λ m. ⌜ Reciprocal d m ⌝ }
+// The byte u of a pixel of coverage n over d under the ink of level v; m is the scale of d. No coverage keeps it, so that none is tested.
+fn ink_byte(palette: &[u16], u: u8, v: u8, n: u64, d: u64, m: u64) -> u8
+    requires { ⌜ Palette (now palette) × Coverage n d × Scaled (now palette) d m ⌝ }
+    ensures { λ r. ⌜ r ≡ dot (inkOf (lightsIn (now (palette .entry))) v d) n u ⌝ }
 {
-    36028797018963968 / d + 1
+    lights::blend_byte(palette, u, v, n, d, m)
 }
 
-// x over d by a reciprocal m, about 2^56 over d. The quotient that m gives is tested, so any m that fits will do.
-fn quotient(x: u64, d: u64, m: u64) -> u64
-    requires { ⌜ (0 < d) × (d ≤ 2 ^ 31) × (x * m < 2 ^ 64) ⌝ }
-    ensures { λ q. ⌜ q ≡ x / d ⌝ }
+// The same in lights at even steps, and in others.
+fn ink_even(palette: &[u16], u: u8, v: u8, n: u64, d: u64, m: u64) -> u8
+    requires { ⌜ Palette (now palette) × (length (now palette) ≡ 256) × Coverage n d × Scaled (now palette) d m ⌝ }
+    ensures { λ r. ⌜ r ≡ dot (inkOf (lightsIn (now (palette .entry))) v d) n u ⌝ }
 {
-    let q = x * m / 72057594037927936;
-    let p = q * d;
-    if p <= x {
-        if x - p < d {
-            return q;
-        }
-    }
-    x / d
+    lights::even::blend_even(palette, u, v, n, d, m)
 }
 
-// x over d by a reciprocal m that is near enough for x: it needs no test.
-fn near_quotient(x: u64, d: u64, m: u64) -> u64
-    requires { ⌜ (0 < d) × (x * m < 2 ^ 64) × (2 ^ 56 ≤ m * d) × (x * (m * d - 2 ^ 56) < 2 ^ 56) ⌝ }
-    ensures { λ q. ⌜ q ≡ x / d ⌝ }
+fn ink_uneven(palette: &[u16], u: u8, v: u8, n: u64, d: u64, m: u64) -> u8
+    requires { ⌜ Palette (now palette) × (length (now palette) ≡ 256 → ⊥) × Coverage n d × Scaled (now palette) d m ⌝ }
+    ensures { λ r. ⌜ r ≡ dot (inkOf (lightsIn (now (palette .entry))) v d) n u ⌝ }
 {
-    x * m / 72057594037927936
+    lights::uneven::blend_uneven(palette, u, v, n, d, m)
 }
 
-// What a blend divides by 2 d.
-fn dividend(u: u8, v: u8, n: u64, d: u64) -> u64
-    requires { ⌜ Coverage n d ⌝ }
-    ensures { λ x. ⌜ Dividend u v n d x ⌝ }
+// The same at coverage n over 512.
+pub fn ink_even_512(palette: &[u16], u: u8, v: u8, n: u64) -> u8
+    requires { ⌜ Palette (now palette) × (length (now palette) ≡ 256) × (n ≤ 512) ⌝ }
+    ensures { λ r. ⌜ r ≡ dot (inkOf (lightsIn (now (palette .entry))) v 512) n u ⌝ }
 {
-    2 * ((u as u64) * (d - n) + (v as u64) * n) + d
+    lights::even::blend_even_512(palette, u, v, n)
 }
 
-// Level v over byte u at coverage n over d, by the reciprocal of d: up to 2^23 that is near enough.
-fn blend_byte(u: u8, v: u8, n: u64, d: u64, m: u64) -> u8
-    requires { ⌜ Coverage n d × Reciprocal d m ⌝ }
-    ensures { λ r. ⌜ r ≡ blend u v n d ⌝ }
+pub fn ink_uneven_512(palette: &[u16], u: u8, v: u8, n: u64, m: u64) -> u8
+    requires { ⌜ Palette (now palette) × (length (now palette) ≡ 256 → ⊥) × (n ≤ 512) × Scaled (now palette) 512 m ⌝ }
+    ensures { λ r. ⌜ r ≡ dot (inkOf (lightsIn (now (palette .entry))) v 512) n u ⌝ }
 {
-    let x = dividend(u, v, n, d);
-    if d <= 8388608 {
-        near_quotient(x, 2 * d, m) as u8
-    } else {
-        quotient(x, 2 * d, m) as u8
-    }
-}
-
-// Level v over byte u at coverage n over 512.
-pub fn blend_byte_512(u: u8, v: u8, n: u64) -> u8
-    requires { ⌜ n ≤ 512 ⌝ }
-    ensures { λ r. ⌜ r ≡ blend u v n 512 ⌝ }
-{
-    (dividend(u, v, n, 512) / 1024) as u8
+    lights::uneven::blend_uneven_512(palette, u, v, n, m)
 }
 
 // Blends byte k of a page.
-pub fn put(page: &mut [u8], k: usize, v: u8, n: u64, d: u64, m: u64)
-    requires { ⌜ (k < length (now page)) × Coverage n d × Reciprocal d m ⌝ }
-    ensures { λ _. ⌜ now (page .exit) ≡ set (now (page .entry)) k (blend (getD (now (page .entry)) k 0) v n d) ⌝ }
+pub fn put(page: &mut [u8], palette: &[u16], k: usize, v: u8, n: u64, d: u64, m: u64)
+    requires { ⌜ (k < length (now page)) × Palette (now palette) × Coverage n d × Scaled (now palette) d m ⌝ }
+    ensures { λ _. ⌜ now (page .exit) ≡ set (now (page .entry)) k (dot (inkOf (lightsIn (now (palette .entry))) v d) n (getD (now (page .entry)) k 0)) ⌝ }
 {
     let u = page[k];
-    page[k] = blend_byte(u, v, n, d, m);
+    page[k] = ink_byte(palette, u, v, n, d, m);
+}
+
+// The same in lights at even steps, and in others.
+pub fn put_even(page: &mut [u8], palette: &[u16], k: usize, v: u8, n: u64, d: u64, m: u64)
+    requires { ⌜ (k < length (now page)) × Palette (now palette) × (length (now palette) ≡ 256) × Coverage n d × Scaled (now palette) d m ⌝ }
+    ensures { λ _. ⌜ now (page .exit) ≡ set (now (page .entry)) k (dot (inkOf (lightsIn (now (palette .entry))) v d) n (getD (now (page .entry)) k 0)) ⌝ }
+{
+    let u = page[k];
+    page[k] = ink_even(palette, u, v, n, d, m);
+}
+
+pub fn put_uneven(page: &mut [u8], palette: &[u16], k: usize, v: u8, n: u64, d: u64, m: u64)
+    requires { ⌜ (k < length (now page)) × Palette (now palette) × (length (now palette) ≡ 256 → ⊥) × Coverage n d × Scaled (now palette) d m ⌝ }
+    ensures { λ _. ⌜ now (page .exit) ≡ set (now (page .entry)) k (dot (inkOf (lightsIn (now (palette .entry))) v d) n (getD (now (page .entry)) k 0)) ⌝ }
+{
+    let u = page[k];
+    page[k] = ink_uneven(palette, u, v, n, d, m);
 }
 
 // Gives every byte of a stretch the level v.

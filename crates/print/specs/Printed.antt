@@ -1,6 +1,7 @@
 -- What is printed for a list (R9).
 use mathlib.Core.List.{List}
 use Prim.Native.Nat.{ℕ}
+use Rattle.lights.specs.Codes.{codes}
 use Rattle.drawing.specs.declared.Answer.{Answer}
 use Rattle.drawing.specs.declared.Answer.the-variants.{Drawn, Refused}
 use Rattle.drawing.specs.declared.Outcome.{Outcome}
@@ -15,6 +16,6 @@ answerText (Refused f place) touched page = refusalText f place
 abbrev pub outcomeText : Outcome → List ℕ → List ℕ
 outcomeText r = answerText (r .answer) (r .touched)
 
--- a list drawn on a page
+-- a list drawn on a page in lights equal to codes
 unfoldable pub listText : List ℕ → List ℕ → List ℕ
-listText list page = outcomeText (listOutcome list page) (listPage list page)
+listText list page = outcomeText (listOutcome codes list page) (listPage codes list page)

@@ -27,7 +27,8 @@ fn put_outcome(out: &mut [u8], page: &[u8], outcome: Outcome) -> usize
 fn put_list(out: &mut [u8; 262384], page: &mut [u8; 65536], list: &[u8]) -> usize
     ensures { λ r. ⌜ (take r (now (out .exit)) ≡ listText (now (list .entry)) (now (page .entry))) × (r ≤ 262384) ⌝ }
 {
-    let outcome = drawing::draw_list(page, list);
+    let lights = lights::code_lights();
+    let outcome = drawing::draw_list(page, &lights, list);
     put_outcome(out, page, outcome)
 }
 

@@ -10,45 +10,45 @@ abbrev boxed : tie.Else2 → tie.After-box-of
 boxed c = c .before .before .before .before
 
 abbrev start : tie.After-box-of → tie.Start
-start c = c .before .before
+start c = c .before .before .before
 
 returns : tie.Need-returns
 returns c =
     let box = c .before .before in
     let s = start box in
     let test = rw (box .box-of .ensures) at (c .if1 .taken) in
-    boxed-empty (s .args .view) (s .args .ring) (s .pre .0) _ _ _ (λ x y i. omega arith)
+    boxed-empty (s .args .view) (s .args .ring) (s .pre .1) _ _ _ (λ x y i. omega arith)
 
 returns-2 : tie.Need-returns-2
 returns-2 c =
     let box = c .before .before .before .before in
     let s = start box in
     let test = rw (box .box-of .ensures) at (c .if2 .taken) in
-    boxed-empty (s .args .view) (s .args .ring) (s .pre .0) _ _ _ (λ x y i. omega arith)
+    boxed-empty (s .args .view) (s .args .ring) (s .pre .1) _ _ _ (λ x y i. omega arith)
 
 draw-small-requires : tie.Need-draw-small-requires
 draw-small-requires c κs =
     let box = boxed (c .before .before .before) in
     let s = start box in
-    (rw (box .box-of .ensures) (boxed-placed (s .args .view) (s .args .ring) (s .pre .0) (s .pre .1) (s .pre .2)), s .pre .3, c .before .if3 .taken)
+    (rw (box .box-of .ensures) (boxed-placed (s .args .view) (s .args .ring) (s .pre .1) (s .pre .0) (s .pre .2) (s .pre .3)), s .pre .4, c .before .if3 .taken)
 
 returns-3 : tie.Need-returns-3
 returns-3 c =
     let box = boxed (c .before .before .before .before .before .before) in
     let s = start box in
-    boxed-drawn (s .args .view) (s .args .ring) (s .pre .0) _ (rw (box .box-of .ensures) at (c .before .before .draw-small .ensures))
+    boxed-drawn (s .args .view) (s .args .ring) (s .pre .1) _ (rw (box .box-of .ensures) at (c .before .before .draw-small .ensures))
 
 draw-large-requires : tie.Need-draw-large-requires
 draw-large-requires c κs =
     let box = boxed (c .before .before .before) in
     let s = start box in
-    (rw (box .box-of .ensures) (boxed-placed (s .args .view) (s .args .ring) (s .pre .0) (s .pre .1) (s .pre .2)), s .pre .3, s .pre .4)
+    (rw (box .box-of .ensures) (boxed-placed (s .args .view) (s .args .ring) (s .pre .1) (s .pre .0) (s .pre .2) (s .pre .3)), s .pre .4, s .pre .5)
 
 returns-4 : tie.Need-returns-4
 returns-4 c =
     let box = boxed (c .before .before .before .before .before .before) in
     let s = start box in
-    boxed-drawn (s .args .view) (s .args .ring) (s .pre .0) _ (rw (box .box-of .ensures) at (c .before .before .draw-large .ensures))
+    boxed-drawn (s .args .view) (s .args .ring) (s .pre .1) _ (rw (box .box-of .ensures) at (c .before .before .draw-large .ensures))
 
 pub draw-between-spec : {M : Type 1} → statement M
 draw-between-spec =

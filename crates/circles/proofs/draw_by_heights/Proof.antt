@@ -13,7 +13,7 @@ abbrev filled : tie.After-heights2 → tie.After-heights
 filled c = c .before .before .before .before
 
 abbrev start : tie.After-heights → tie.Start
-start c = c .before .before .before .before .before
+start c = c .before .before .before .before .before .before
 
 outer-held : (c : tie.After-heights) → at (c .heights .last .0) ≡ heightOf (start c .args .ring .radius)
 outer-held c = held (c .heights .last .0) _ (c .heights .ensures .each)
@@ -22,10 +22,10 @@ inner-held : (c : tie.After-heights2) → at (c .heights2 .last .0) ≡ heightOf
 inner-held c = held (c .heights2 .last .0) _ (c .heights2 .ensures .each)
 
 heights-requires : tie.Need-heights-requires
-heights-requires c κs = let s = c .before .before .before .before in (s .pre .0 .2, s .pre .1 .0 .room, s .pre .1 .0 .each)
+heights-requires c κs = let s = c .before .before .before .before .before in (s .pre .0 .2, s .pre .1 .0 .room, s .pre .1 .0 .each)
 
 heights-requires-2 : tie.Need-heights-requires-2
-heights-requires-2 c κs = let s = c .before .before .before .before .before .before .before .before in (omega (arith, s .pre .0 .1, s .pre .0 .2), s .pre .1 .1 .room, s .pre .1 .1 .each)
+heights-requires-2 c κs = let s = c .before .before .before .before .before .before .before .before .before in (omega (arith, s .pre .0 .1, s .pre .0 .2), s .pre .1 .1 .room, s .pre .1 .1 .each)
 
 draw-held-requires : tie.Need-draw-held-requires
 draw-held-requires c κs =

@@ -9,7 +9,7 @@ use Rattle.circles.proofs.draw_large.Tie as tie
 
 draw-by-heights-requires : tie.Need-draw-by-heights-requires
 draw-by-heights-requires c κs =
-    let s = c .before .before .before .before in (
+    let s = c .before .before .before .before .before in (
       (s .pre .0, s .pre .1, omega arith),
       (record { room = omega arith; each = zeros (radiusMost + 2) }, record { room = omega arith; each = zeros (radiusMost + 2) }),
     )

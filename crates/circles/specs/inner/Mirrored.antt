@@ -1,7 +1,7 @@
 -- What of a ring lies at some distances from its centre: on the two sides of a row, and in the four quarters.
 use mathlib.Core.Path.{_≡_}
 use mathlib.Core.List.{List}
-use Prim.Native.Nat.{ℕ, _+_, _-_, _≤_, _<_}
+use Prim.Native.Nat.{ℕ, _+_, _≤_, _<_}
 use lib.ListN.{getD, set}
 use Rattle.numbers.specs.inner.Offset.{origin}
 use Rattle.page.specs.inner.Paint.{dot, clipped, Drawn}

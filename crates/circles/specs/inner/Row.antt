@@ -5,6 +5,7 @@ use Prim.Native.Nat.{ℕ, _+_, _*_, _-_, _≤_, _<_}
 use lib.ListN.{length, getD}
 use Rattle.numbers.specs.inner.Offset.{origin, offsetMost}
 use Rattle.shapes.specs.Limits.{radiusMost}
+use Rattle.lights.specs.inner.Palette.{Palette, Scaled}
 use Rattle.page.specs.inner.Paint.{clipped, Lawful, Drawn, clamped}
 use Rattle.page.specs.declared.View.{View}
 use Rattle.coverage.specs.inner.Circle.{apart}
@@ -87,16 +88,23 @@ pub record Reached (view : View) (ring : Ring) : Type 0 where
 abbrev pub smallMost : ℕ
 smallMost = 32
 
+-- what a ring is blended by: a palette, its scale of 512, and a level that is a byte
+pub record Inked (palette : List ℕ) (ring : Ring) : Type 0 where
+  pub palette-is : Palette palette
+  pub scale-is : Scaled palette 512 (ring .m)
+  pub level-most : ring .level ≤ 255
+
 -- where a ring is drawn: on a page of size bytes, in a clip within the ring's box
-pub record Placed (view : View) (size : ℕ) (ring : Ring) : Type 0 where
+pub record Placed (palette : List ℕ) (view : View) (size : ℕ) (ring : Ring) : Type 0 where
+  pub inked : Inked palette ring
   pub lawful : Lawful view size
   pub near : Reached view ring
   pub across : ring .cx ≤ offsetMost
   pub down : ring .cy ≤ offsetMost
 
 -- and what from: the heights of its two circles
-pub record Ready (view : View) (size : ℕ) (ring : Ring) (outer inner : List ℕ) : Type 0 where
-  pub placed : Placed view size ring
+pub record Ready (palette : List ℕ) (view : View) (size : ℕ) (ring : Ring) (outer inner : List ℕ) : Type 0 where
+  pub placed : Placed palette view size ring
   pub circles : Circles outer inner ring
 
 -- columns p to s of row y, of which q to r are whole

@@ -7,6 +7,7 @@ use Rattle.shapes.specs.declared.Shape.{Shape}
 use Rattle.shapes.specs.declared.Shape.the-variants.{Line as line, Disc as disc, Ring as ring}
 use Rattle.coverage.specs.Coverage.{drawnD}
 use Rattle.coverage.specs.inner.OnPage.{shapeOn}
+use Rattle.lights.specs.inner.Palette.{lightsIn}
 use Rattle.page.specs.inner.Ink.{inkOf}
 use Rattle.page.specs.inner.Paint.{DrawnIn}
 use borrow.Author.Needs.{needs}
@@ -15,20 +16,20 @@ use Rattle.draw.proofs.draw_lawful.Tie as tie
 
 -- the state at entry, from each case of the match
 abbrev start : tie.After-shape → tie.Start
-start c = c .before .before .before
+start c = c .before .before .before .before
 
 abbrev start2 : tie.After-shape2 → tie.Start
-start2 c = c .before .before .before
+start2 c = c .before .before .before .before
 
 abbrev start3 : tie.After-shape3 → tie.Start
-start3 c = c .before .before .before
+start3 c = c .before .before .before .before
 
 -- what is drawn of the case that the match finds is drawn of the shape
 found : (c : tie.Start) {s : Shape} {m : List ℕ} {t : ℕ}
     → let a = c .args in
     s ≡ a .shape
-    → DrawnIn (a .view) (inkOf (a .level) (drawnD s)) (shapeOn s) (a .page .now) m t
-    → DrawnIn (a .view) (inkOf (a .level) (drawnD (a .shape))) (shapeOn (a .shape)) (a .page .now) m t
+    → DrawnIn (a .view) (inkOf (lightsIn (a .palette .now)) (a .level) (drawnD s)) (shapeOn s) (a .page .now) m t
+    → DrawnIn (a .view) (inkOf (lightsIn (a .palette .now)) (a .level) (drawnD (a .shape))) (shapeOn (a .shape)) (a .page .now) m t
 found c e d = rw e at d
 
 frame-of-requires : tie.Need-frame-of-requires
@@ -38,7 +39,7 @@ frame-of-requires c κs =
     e
 
 draw-line-requires : tie.Need-draw-line-requires
-draw-line-requires c κs = let m = c .before .before .before in (start m .pre .0, c .frame-of .ensures)
+draw-line-requires c κs = let m = c .before .before .before in (start m .pre .0, start m .pre .1, c .frame-of .ensures)
 
 returns : tie.Need-returns
 returns c =
@@ -52,7 +53,7 @@ draw-disc-requires : tie.Need-draw-disc-requires
 draw-disc-requires c κs =
     let m = c .before .before in
     let e : shapeRefusal (disc (m .shape2 .given .0 .0)) ≡ 0 = cc in
-    (start2 m .pre .0, e)
+    (start2 m .pre .0, start2 m .pre .1, e)
 
 returns-2 : tie.Need-returns-2
 returns-2 c =
@@ -66,7 +67,7 @@ draw-ring-requires : tie.Need-draw-ring-requires
 draw-ring-requires c κs =
     let m = c .before .before in
     let e : shapeRefusal (ring (m .shape3 .given .0 .0)) ≡ 0 = cc in
-    (start3 m .pre .0, e)
+    (start3 m .pre .0, start3 m .pre .1, e)
 
 returns-3 : tie.Need-returns-3
 returns-3 c =

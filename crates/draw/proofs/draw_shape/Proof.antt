@@ -15,7 +15,7 @@ use Rattle.draw.proofs.draw_shape.Tie as tie
 abbrev Drawn : tie.Start → Shape → Outcome → List ℕ → Type 0
 Drawn c s r m =
     let a = c .args in
-    (r ≡ shapeOutcome (a .w) (a .h) (length (a .page .now)) (a .clip) s) × (m ≡ shapePage (a .w) (a .h) (a .clip) (a .level) s (a .page .now))
+    (r ≡ shapeOutcome (a .w) (a .h) (length (a .page .now)) (a .lights .now) (a .clip) s) × (m ≡ shapePage (a .w) (a .h) (a .lights .now) (a .clip) (a .level) s (a .page .now))
 
 -- what holds of the case that the match finds holds of the shape
 of-shape : (c : tie.Start) {s : Shape} {r : Outcome} {m : List ℕ} → s ≡ c .args .shape → Drawn c s r m → Drawn c (c .args .shape) r m
@@ -25,7 +25,7 @@ returns : tie.Need-returns
 returns c =
     let d = c .before .before in
     let m = d .before .before .before in
-    let s = m .before .before .before in
+    let s = m .before .before .before .before in
     let e : line (m .shape .given .0 .0) ≡ s .args .shape = cc in
     of-shape s e (d .draw-line .ensures)
 
@@ -33,7 +33,7 @@ returns-2 : tie.Need-returns-2
 returns-2 c =
     let d = c .before .before in
     let m = d .before .before .before in
-    let s = m .before .before .before in
+    let s = m .before .before .before .before in
     let e : disc (m .shape2 .given .0 .0) ≡ s .args .shape = cc in
     of-shape s e (d .draw-disc .ensures)
 
@@ -41,7 +41,7 @@ returns-3 : tie.Need-returns-3
 returns-3 c =
     let d = c .before .before in
     let m = d .before .before .before in
-    let s = m .before .before .before in
+    let s = m .before .before .before .before in
     let e : ring (m .shape3 .given .0 .0) ≡ s .args .shape = cc in
     of-shape s e (d .draw-ring .ensures)
 

@@ -1,7 +1,6 @@
 -- The columns that a walk would take are the touched ones, so that the last of them, counted from the first end, is the line's last.
-use mathlib.Core.Path.{_≡_, sym, _∙_}
+use mathlib.Core.Path.{_≡_}
 use Prim.Native.Nat.{_*_, _≤_}
-use native.Mathlib.Nat.{mul-le-mul}
 use native.Mathlib.Omega.{arith}
 use borrow.Author.Tests.{ne-eqb}
 use Rattle.shapes.specs.Limits.{shapeRefusal}
@@ -11,24 +10,17 @@ use Rattle.lines.specs.inner.Columns.{Columns}
 use Rattle.lines.proofs.Fits.{along-most}
 use Rattle.draw.specs.Column.{columnRefusal}
 use Rattle.draw.specs.inner.View.{viewOf}
-use Rattle.draw.proofs.Column.{column-refusals, column-lawful, none-last, is-last}
+use Rattle.draw.proofs.Column.{column-lawful, none-last, is-last}
 use borrow.Author.Needs.{needs}
 use Rattle.draw.proofs.last_column.Statement.{statement}
 use Rattle.draw.proofs.last_column.Tie as tie
 
-mul-draw-refusal : tie.Need-mul-draw-refusal
-mul-draw-refusal c =
-    let s = c .before in
-    omega (arith, s .fits .w, s .fits .h, mul-le-mul {n₁ = s .args .w} {m₁ = s .args .h} {n₂ = 65535} {m₂ = 65535} (omega (arith, s .fits .w)) (omega (arith, s .fits .h)))
-
 -- the state at entry, and that the refusal that is found is the definition's
-abbrev start : tie.After-draw-refusal → tie.Start
+abbrev start : tie.After-column-refusal → tie.Start
 start c = c .before .before
 
-found : (c : tie.After-draw-refusal) → let a = start c .args in c .draw-refusal .result ≡ columnRefusal (a .w) (a .h) (a .clip) (a .line)
-found c =
-    let a = start c .args in
-    c .draw-refusal .ensures (line (a .line)) (c .before .line-refusal .ensures) ∙ sym (column-refusals (a .w) (a .h) (a .clip) (a .line))
+found : (c : tie.After-column-refusal) → let a = start c .args in c .column-refusal .result ≡ columnRefusal (a .w) (a .h) (a .clip) (a .line)
+found c = let a = start c .args in c .column-refusal .ensures (a .line) (c .before .line-refusal .ensures)
 
 returns : tie.Need-returns
 returns c =
@@ -36,7 +28,7 @@ returns c =
     rw (ne-eqb (columnRefusal (a .w) (a .h) (a .clip) (a .line)) 0 (λ z. omega (arith, found (c .before), c .if1 .taken)), found (c .before))
 
 -- where nothing is refused
-none : (c : tie.After-draw-refusal) → c .draw-refusal .result ≤ 0 → let a = start c .args in columnRefusal (a .w) (a .h) (a .clip) (a .line) ≡ 0
+none : (c : tie.After-column-refusal) → c .column-refusal .result ≤ 0 → let a = start c .args in columnRefusal (a .w) (a .h) (a .clip) (a .line) ≡ 0
 none c h = omega (arith, found c)
 
 frame-of-requires : tie.Need-frame-of-requires
@@ -50,7 +42,7 @@ columns-of-requires c κs =
 
 -- ---- the columns are found
 module _ (c : tie.After-columns-of) where
-  abbrev refusal : tie.After-draw-refusal
+  abbrev refusal : tie.After-column-refusal
   refusal = c .before .before .before .before
 
   abbrev entry : tie.Start
@@ -75,15 +67,15 @@ returns-2 c =
     (none-last (a .w) (a .h) (a .clip) (a .line) (k .before .before .frame-of .result) (a .h * a .w) (k .columns-of .result .from) (k .columns-of .result .end) (both .0) (both .1)
     (k .before .before .frame-of .ensures) (columns k) (c .if2 .taken))
 
-add-t16 : tie.Need-add-t16
-add-t16 c =
+add-t13 : tie.Need-add-t13
+add-t13 c =
     let k = c .before .before in
     let a = entry k .args in
     let b = columns k .between (c .if2 .left) in
     omega (arith, along-most (viewOf (a .w) (a .h) (a .clip)) (k .before .before .frame-of .result) (a .h * a .w) (k .columns-of .result .end) (lawful k .0) (b .end .right))
 
-sub-t17 : tie.Need-sub-t17
-sub-t17 c =
+sub-t14 : tie.Need-sub-t14
+sub-t14 c =
     let k = c .before .before .before in
     let b = columns k .between (c .before .if2 .left) in
     omega (arith, b .some, b .first)
@@ -100,4 +92,4 @@ returns-3 c =
 pub last-column-spec : {M : Type 1} → statement M
 last-column-spec =
     tie.close
-    (tie.spec (λ c κs. search needs) mul-draw-refusal (λ c κs. search needs) returns frame-of-requires (λ c κs. search needs) columns-of-requires returns-2 (λ c. search needs) add-t16 sub-t17 returns-3)
+    (tie.spec (λ c κs. search needs) (λ c κs. search needs) returns frame-of-requires (λ c κs. search needs) columns-of-requires returns-2 (λ c. search needs) add-t13 sub-t14 returns-3)

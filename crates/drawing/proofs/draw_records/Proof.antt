@@ -5,6 +5,7 @@ use native.Mathlib.Omega.{arith}
 use borrow.Author.Needs.{needs}
 use denote.Ref.{now}
 use lib.ListN.{length}
+use Rattle.lights.specs.inner.Palette.{lightsIn}
 use Rattle.drawing.proofs.Shapes.{length-shapes}
 use Rattle.lists.proofs.Left.{left-inside, left-stands, left-whole}
 use Rattle.drawing.proofs.Records.{RemainingOf, remaining-start, player-below, remaining-end, lawful-record, remaining-next}
@@ -12,13 +13,16 @@ use Rattle.drawing.proofs.draw_records.Statement.{statement}
 use Rattle.drawing.proofs.draw_records.Tie as tie
 
 abbrev Inv-loop : tie.InvT-loop
-Inv-loop page₀ list basis settings₀ touched₀ place₀ page settings touched place =
-    RemainingOf basis list page₀ place settings page touched × (length page ≡ length page₀)
+Inv-loop page₀ palette list basis settings₀ touched₀ place₀ page settings touched place =
+    RemainingOf (lightsIn palette) basis list page₀ place settings page touched × (length page ≡ length page₀)
 
 abbrev μ-loop : tie.MeasureT-loop
-μ-loop page₀ list basis settings₀ touched₀ place₀ page settings touched place = length list - place
+μ-loop page₀ palette list basis settings₀ touched₀ place₀ page settings touched place = length list - place
 
--- the turn of the loop, from its calls
+-- the state at entry, and the turn of the loop from its calls
+abbrev start : tie.At-loop Inv-loop μ-loop → tie.Start Inv-loop μ-loop
+start c = c .before .before .before .before .before
+
 abbrev decoded : tie.After-decode Inv-loop μ-loop → tie.At-loop Inv-loop μ-loop
 decoded c = c .before .before .before .before
 
@@ -30,8 +34,8 @@ passed c = c .before .before .before .before
 
 loop-holds : tie.Need-loop-holds Inv-loop μ-loop
 loop-holds c =
-    let s = c .before .before .before in
-    (rw (c .first-settings .ensures) (remaining-start (s .args .basis) (now (s .args .list)) (now (s .args .page)) (s .pre)), refl)
+    let s = c .before .before .before .before in
+    (rw (c .first-settings .ensures) (remaining-start (lightsIn (now (s .args .palette))) (s .args .basis) (now (s .args .list)) (now (s .args .page)) (s .pre .1)), refl)
 
 shared-slice-read-kind : tie.Need-shared-slice-read-kind Inv-loop μ-loop
 shared-slice-read-kind c = left-inside (c .before .loop .inv .0 .left) .0
@@ -54,7 +58,10 @@ decode-requires : tie.Need-decode-requires Inv-loop μ-loop
 decode-requires c κs = left-whole (c .before .before .before .loop .inv .0 .left)
 
 draw-record-requires : tie.Need-draw-record-requires Inv-loop μ-loop
-draw-record-requires c κs = let d = c .before .before .before in lawful-record (decoded d .loop .inv .0) (d .decode .ensures)
+draw-record-requires c κs =
+    let d = c .before .before .before in
+    let law = lawful-record (decoded d .loop .inv .0) (d .decode .ensures) in
+    (start (decoded d) .pre .0, law .0, law .1)
 
 array-read-touched : tie.Need-array-read-touched Inv-loop μ-loop
 array-read-touched c = player-below (decoded (drawn (c .before .before)) .loop .inv .0)
@@ -93,7 +100,7 @@ loop-again c =
     let some = d .before .before .if1 .left in
     let done = r .draw-record .ensures in (
       remaining-next (p .0) (d .decode .ensures) some (done .0 _) (done .1) (done .2) (c .before .settings-after .ensures) (c .next-place .ensures),
-      ap length (done .0 0 .page) ∙ length-shapes _ _ _ ∙ p .1,
+      ap length (done .0 0 .page) ∙ length-shapes _ _ _ _ ∙ p .1,
     )
 
 pub draw-records-spec : {M : Type 1} → statement M

@@ -18,13 +18,13 @@ abbrev pub settingsOf : Clip → ℕ → ℕ → Settings
 settingsOf c v p = record { clip = c; level = v; player = p }
 
 -- the page l after one shape upon the other
-unfoldable pub shapesPage : ℕ → List Drawing → List ℕ → List ℕ
-shapesPage w [] l = l
-shapesPage w (d ∷ ds) l = shapesPage w ds (pageAfter w (d .settings .clip) (d .settings .level) (d .shape) l)
+unfoldable pub shapesPage : List ℕ → ℕ → List Drawing → List ℕ → List ℕ
+shapesPage lights w [] l = l
+shapesPage lights w (d ∷ ds) l = shapesPage lights w ds (pageAfter lights w (d .settings .clip) (d .settings .level) (d .shape) l)
 
 -- every byte of a page as the touches of its pixel leave the background b
-unfoldable pub touchedPage : ℕ → ℕ → List Drawing → List ℕ → List ℕ
-touchedPage w b ds = over (λ k _. byteAfter b (touchesAt ds (k % w) (k / w)))
+unfoldable pub touchedPage : List ℕ → ℕ → ℕ → List Drawing → List ℕ → List ℕ
+touchedPage lights w b ds = over (λ k _. byteAfter lights b (touchesAt ds (k % w) (k / w)))
 
 -- every level is a byte, every player is one of version v, and no shape has a refusal
 unfoldable pub AllLawful : ℕ → List Drawing → Type 0
@@ -36,20 +36,20 @@ pub record Drawable (s : List ℕ) (b : Basis) (size : ℕ) : Type 0 where
   pub walk : Walkable s b
   pub room : b .w * b .h ≤ size
 
--- drawings ds, one upon the other on a page that was l, leave m and touch t pixels
-pub record ShapesDrawn (b : Basis) (ds : List Drawing) (l m : List ℕ) (t : ℕ) : Type 0 where
-  pub page : m ≡ shapesPage (b .w) ds l
+-- drawings ds, one upon the other in some lights on a page that was l, leave m and touch t pixels
+pub record ShapesDrawn (lights : List ℕ) (b : Basis) (ds : List Drawing) (l m : List ℕ) (t : ℕ) : Type 0 where
+  pub page : m ≡ shapesPage lights (b .w) ds l
   pub count : t ≡ shapesCount (b .w) (b .h) ds
 
 -- lawful drawings ds do so, and touch ts pixels by player
-pub record ListDrawn (b : Basis) (ds : List Drawing) (l m ts : List ℕ) : Type 0 where
-  pub page : m ≡ shapesPage (b .w) ds l
+pub record ListDrawn (lights : List ℕ) (b : Basis) (ds : List Drawing) (l m ts : List ℕ) : Type 0 where
+  pub page : m ≡ shapesPage lights (b .w) ds l
   pub counts : ts ≡ playerCounts (shapesCount (b .w) (b .h)) ds
   pub lawful : AllLawful (b .version) ds
 
 -- and on a background, which is a byte
-pub record ListPainted (b : Basis) (background : ℕ) (ds : List Drawing) (l m ts : List ℕ) : Type 0 where
-  pub page : m ≡ touchedPage (b .w) background ds l
+pub record ListPainted (lights : List ℕ) (b : Basis) (background : ℕ) (ds : List Drawing) (l m ts : List ℕ) : Type 0 where
+  pub page : m ≡ touchedPage lights (b .w) background ds l
   pub counts : ts ≡ playerCounts (shapesCount (b .w) (b .h)) ds
   pub lawful : AllLawful (b .version) ds
   pub byte : background ≤ 255

@@ -3,6 +3,7 @@ use mathlib.Core.Path.{_≡_, refl, _∙_}
 use Prim.Native.Nat.{_-_, _≤_}
 use native.Mathlib.Omega.{arith}
 use lib.ListN.{length}
+use Rattle.lights.specs.inner.Palette.{lightsIn}
 use Rattle.page.specs.inner.Ink.{inkOf}
 use Rattle.lines.specs.inner.Stroke.{Extended}
 use Rattle.lines.proofs.Walk.{extended-none, extended-join, first-fits, walk-begins, steppable, walked, none-drawn}
@@ -10,17 +11,17 @@ use Rattle.lines.proofs.draw_clipped.Statement.{statement}
 use Rattle.lines.proofs.draw_clipped.Tie as tie
 
 abbrev Inv-loop : tie.InvT-loop
-Inv-loop page₀ s from end at₀ page at = (length page ≡ length page₀) × Extended (inkOf (s .level) (s .d)) s at₀ at page₀ page × (at .p ≤ end)
+Inv-loop page₀ palette s from end at₀ page at = (length page ≡ length page₀) × Extended (inkOf (lightsIn palette) (s .level) (s .d)) s at₀ at page₀ page × (at .p ≤ end)
 
 abbrev μ-loop : tie.MeasureT-loop
-μ-loop page₀ s from end at₀ page at = end - at .p
+μ-loop page₀ palette s from end at₀ page at = end - at .p
 
 -- where columns are left
 abbrev start : tie.Else1 Inv-loop μ-loop → tie.Start Inv-loop μ-loop
-start c = c .before .before
+start c = c .before .before .before
 
 returns : tie.Need-returns Inv-loop μ-loop
-returns c = none-drawn (c .before .before .args .page .now) (c .if1 .taken)
+returns c = none-drawn (c .before .before .before .args .page .now) (c .if1 .taken)
 
 first-step-requires : tie.Need-first-step-requires Inv-loop μ-loop
 first-step-requires c κs = first-fits (start c .pre) (c .if1 .left)

@@ -1,66 +1,16 @@
--- Each step extends the walk by one column, until it has come to end. Rows only rise, so that all columns lie inside as the first and the
--- last do.
-use mathlib.Core.Path.{_≡_, refl, _∙_}
-use Prim.Native.Nat.{_-_, _≤_, _<_}
+-- The length of the palette tells which loop it is for.
 use native.Mathlib.Omega.{arith}
-use lib.ListN.{length}
-use Rattle.page.specs.inner.Ink.{inkOf}
-use Rattle.lines.specs.inner.Stroke.{Extended}
-use Rattle.lines.proofs.Walk.{extended-none, extended-join, first-fits, walk-begins, steppable, inner-at, walked, none-drawn}
+use borrow.Author.Needs.{needs}
 use Rattle.lines.proofs.draw_inside.Statement.{statement}
 use Rattle.lines.proofs.draw_inside.Tie as tie
 
-abbrev Inv-loop : tie.InvT-loop
-Inv-loop page₀ s from end at₀ page at = (length page ≡ length page₀) × Extended (inkOf (s .level) (s .d)) s at₀ at page₀ page × (at .p ≤ end)
+draw-even-requires : tie.Need-draw-even-requires
+draw-even-requires c κs = let p = c .before .before .before .before .pre in (p .0, omega arith, p .1)
 
-abbrev μ-loop : tie.MeasureT-loop
-μ-loop page₀ s from end at₀ page at = end - at .p
-
--- where columns are left
-abbrev start : tie.Else1 Inv-loop μ-loop → tie.Start Inv-loop μ-loop
-start c = c .before .before
-
-returns : tie.Need-returns Inv-loop μ-loop
-returns c = none-drawn (c .before .before .args .page .now) (c .if1 .taken)
-
-first-step-requires : tie.Need-first-step-requires Inv-loop μ-loop
-first-step-requires c κs = first-fits (start c .pre .0) (c .if1 .left)
-
-loop-holds : tie.Need-loop-holds Inv-loop μ-loop
-loop-holds c =
-    let e = c .before in
-    let s = start e in
-    let at = c .first-step .ensures in
-    (refl, extended-none (c .first-step .result) (s .args .page .now) (walk-begins (s .pre .0) (e .if1 .left) (at .0) (at .1) (at .2)), omega (arith, at .1))
-
-step-inside-requires : tie.Need-step-inside-requires Inv-loop μ-loop
-step-inside-requires c κs =
-    let v = c .before .before .before in
-    let e = v .before .before in
-    let x = v .loop .inv .1 in
-    let pre = start e .pre in
-    let more : v .loop .at .p < start e .args .end = omega arith in (
-      steppable (pre .0) (e .if1 .left) (v .loop .inv .0) x more,
-      inner-at (pre .0) (e .if1 .left) (pre .1) (x .standing) (omega (arith, x .order, v .before .first-step .ensures .1)) more,
-    )
-
-loop-less : tie.Need-loop-less Inv-loop μ-loop
-loop-less c = omega (arith, c .before .before .step-inside .ensures .p-is)
-
-loop-again : tie.Need-loop-again Inv-loop μ-loop
-loop-again c =
-    let step = c .before .before .step-inside in
-    let v = c .before .before .before .before .before .before .loop in
-    (step .kept .0 ∙ v .inv .0, extended-join (v .inv .1) (step .ensures .extended), omega (arith, step .ensures .p-is))
-
-same-length : tie.Need-same-length Inv-loop μ-loop
-same-length c = c .before .before .loop .inv .0
-
-returns-2 : tie.Need-returns-2 Inv-loop μ-loop
-returns-2 c =
-    let v = c .before .before in
-    let at = v .before .first-step .ensures in
-    walked (at .1) (at .2) (v .loop .inv .1) (v .loop .inv .2) (omega arith)
+draw-uneven-requires : tie.Need-draw-uneven-requires
+draw-uneven-requires c κs = let p = c .before .before .before .before .pre in (p .0, λ e. omega arith, p .1)
 
 pub draw-inside-spec : {M : Type 1} → statement M
-draw-inside-spec = tie.close (tie.spec Inv-loop μ-loop returns first-step-requires loop-holds step-inside-requires loop-less loop-again same-length returns-2)
+draw-inside-spec =
+    tie.close
+    (tie.spec draw-even-requires draw-uneven-requires (λ c. search needs) (λ c. search needs) (λ c. search needs) (λ c. search needs))

@@ -14,8 +14,8 @@ returns c =
 draw-columns-requires : tie.Need-draw-columns-requires
 draw-columns-requires c κs =
     let k = c .before .before .before in
-    let s = k .before .before in
-    (s .pre .0, s .pre .1, k .walk-of .ensures .between (c .before .if1 .left))
+    let s = k .before .before .before in
+    (s .pre .0, s .pre .1, s .pre .2, k .walk-of .ensures .between (c .before .if1 .left))
 
 returns-2 : tie.Need-returns-2
 returns-2 c =

@@ -11,7 +11,7 @@ use Rattle.coverage.specs.inner.Rows.{wholeOf}
 use Rattle.coverage.specs.inner.Frame.{rowOrigin, Framed}
 use Rattle.coverage.specs.inner.OnPage.{shapeOn}
 use Rattle.coverage.specs.declared.line.Frame.{Frame}
-use Rattle.page.specs.inner.Ink.{Reciprocal}
+use Rattle.lights.specs.inner.Palette.{Palette, Scaled}
 use Rattle.page.specs.inner.Paint.{Lawful, Drawn}
 use Rattle.lines.specs.inner.Layout.{alongFrom, strip, EndInside, Between, Laid, byteAt, raised}
 use Rattle.lines.specs.declared.layout.Layout.{Layout}
@@ -59,13 +59,14 @@ pub record Advanced (lay : Layout) (f : Frame) (t : ℕ) (at to : Step) : Type 0
 
 -- ---- a walk
 
--- a stroke that may be drawn on a page of size bytes
-pub record Prepared (s : Stroke) (size : ℕ) : Type 0 where
+-- a stroke that may be drawn by a palette on a page of size bytes
+pub record Prepared (palette : List ℕ) (s : Stroke) (size : ℕ) : Type 0 where
+  pub inked : Palette palette
   pub lawful : Lawful (s .view) size
   pub framed : Framed (s .line) (s .frame)
   pub laid : Laid (s .view) (s .frame) (s .layout)
   pub d-is : s .d ≡ wholeOf (s .line .exact) (s .frame .l) (s .frame .s)
-  pub m-is : Reciprocal (s .d) (s .m)
+  pub m-is : Scaled palette (s .d) (s .m)
 
 -- a walk stands at a column of the stroke, or after its last; three pixels a column bound its count
 pub record Standing (s : Stroke) (at : Step) : Type 0 where
@@ -75,8 +76,8 @@ pub record Standing (s : Stroke) (at : Step) : Type 0 where
   pub few : at .touched ≤ 3 * at .p
 
 -- a walk may draw the column at which it stands, on a page of size bytes
-pub record Steppable (s : Stroke) (at : Step) (size : ℕ) : Type 0 where
-  pub ready : Prepared s size
+pub record Steppable (palette : List ℕ) (s : Stroke) (at : Step) (size : ℕ) : Type 0 where
+  pub ready : Prepared palette s size
   pub standing : Standing s at
   pub within : EndInside (s .view) (s .frame) (at .p + 1)
 
@@ -100,8 +101,8 @@ pub record Stepped (ink : ℕ → ℕ → ℕ) (s : Stroke) (at to : Step) (l m 
 -- ---- columns
 
 -- columns p to e of a stroke, if there are any, may be drawn on a page of size bytes
-pub record Drawable (s : Stroke) (p e size : ℕ) : Type 0 where
-  pub ready : Prepared s size
+pub record Drawable (palette : List ℕ) (s : Stroke) (p e size : ℕ) : Type 0 where
+  pub ready : Prepared palette s size
   pub between : p < e → Between (s .view) (s .frame) p e
 
 -- they have been drawn, in any ink: the page was l and is m, and t pixels were touched

@@ -8,8 +8,8 @@ use Rattle.page.proofs.put.Tie as tie
 
 returns : tie.Need-returns
 returns c =
-    let a = c .before .before .before .args in
-    ap (λ (z : ℕ). set (a .page .now) (a .k) z) (c .blend-byte .ensures)
+    let a = c .before .before .before .before .args in
+    ap (λ (z : ℕ). set (a .page .now) (a .k) z) (c .ink-byte .ensures)
 
 pub put-spec : {M : Type 1} → statement M
 put-spec =

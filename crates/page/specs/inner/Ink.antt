@@ -1,24 +1,8 @@
--- What a blend is worked out from.
-use mathlib.Core.Path.{_≡_}
-use Prim.Native.Nat.{ℕ, _+_, _*_, _-_, _^_, _≤_, _<_}
-use Rattle.page.specs.Blend.{blend}
+-- The ink of a level.
+use mathlib.Core.List.{List}
+use Prim.Native.Nat.{ℕ}
+use Rattle.lights.specs.Blend.{blend}
 
--- an ink is what a touched pixel's byte u becomes at coverage n: here that of level v, with coverages over d
-abbrev pub inkOf : ℕ → ℕ → ℕ → ℕ → ℕ
-inkOf v d n u = blend u v n d
-
--- n over d is a coverage whose blends fit
-pub record Coverage (n d : ℕ) : Type 0 where
-  pub some : 0 < d
-  pub part : n ≤ d
-  pub most : d ≤ 2 ^ 30
-
--- m is the least whole number above 2^55 over d: by it a quotient by 2·d is a product
-pub record Reciprocal (d m : ℕ) : Type 0 where
-  pub least : 2 ^ 55 < m * d
-  pub most : m * d ≤ 2 ^ 55 + d
-
--- x over 2·d is the blend, before it is cut to a whole number
-pub record Dividend (u v n d x : ℕ) : Type 0 where
-  pub is : x ≡ 2 * (u * (d - n) + v * n) + d
-  pub most : x ≤ 511 * d
+-- an ink is what a touched pixel's byte u becomes at coverage n: here that of level v in some lights, with coverages over d
+abbrev pub inkOf : List ℕ → ℕ → ℕ → ℕ → ℕ → ℕ
+inkOf lights v d n u = blend lights u v n d

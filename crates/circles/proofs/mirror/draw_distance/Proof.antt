@@ -5,12 +5,12 @@ use Rattle.circles.proofs.mirror.draw_distance.Statement.{statement}
 use Rattle.circles.proofs.mirror.draw_distance.Tie as tie
 
 measure-requires : tie.Need-measure-requires
-measure-requires c κs = let s = c .before .before .before in (s .pre .0 .circles, s .pre .2)
+measure-requires c κs = let s = c .before .before .before .before in (s .pre .0 .circles, s .pre .2)
 
 draw-quarters-requires : tie.Need-draw-quarters-requires
 draw-quarters-requires c κs =
     let m = c .before .before .before in
-    let s = m .before .before .before .before in
+    let s = m .before .before .before .before .before in
     let in-clip = s .pre .1 in
     let order = m .measure .ensures .order in (
       (

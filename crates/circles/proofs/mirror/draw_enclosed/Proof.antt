@@ -3,6 +3,7 @@ use mathlib.Core.Path.{_≡_}
 use mathlib.Core.Logic.{inr}
 use Prim.Native.Nat.{_+_, _-_, _≤_}
 use native.Mathlib.Omega.{arith}
+use Rattle.lights.specs.inner.Palette.{lightsIn}
 use Rattle.page.specs.inner.Ink.{inkOf}
 use Rattle.page.specs.inner.Paint.{clipped}
 use Rattle.page.proofs.Drawn.{drawn-none, drawn-join, drawn-length, drawn-count}
@@ -15,31 +16,31 @@ use Rattle.circles.proofs.mirror.draw_enclosed.Statement.{statement}
 use Rattle.circles.proofs.mirror.draw_enclosed.Tie as tie
 
 abbrev Inv-loop : tie.InvT-loop
-Inv-loop page₀ view ring outer inner end touched₀ b₀ page touched b =
+Inv-loop page₀ palette view ring outer inner end touched₀ b₀ page touched b =
     (b ≤ ring .radius)
-    × QuartersDrawn (inkOf (ring .level) 512) view ring (at outer) (at inner) 0 0 (ring .radius) b page₀ page touched
+    × QuartersDrawn (inkOf (lightsIn palette) (ring .level) 512) view ring (at outer) (at inner) 0 0 (ring .radius) b page₀ page touched
 
 abbrev μ-loop : tie.MeasureT-loop
-μ-loop page₀ view ring outer inner end touched₀ b₀ page touched b = ring .radius - b
+μ-loop page₀ palette view ring outer inner end touched₀ b₀ page touched b = ring .radius - b
 
 loop-holds : tie.Need-loop-holds Inv-loop μ-loop
 loop-holds c =
-    let a = c .before .before .before .args in
+    let a = c .before .before .before .before .args in
     (omega arith, drawn-none _ _ _ _ (a .page .now) (quarters-none (a .ring) _ 0 0 (a .ring .radius) 0 (inr (omega arith))))
 
 draw-distance-requires : tie.Need-draw-distance-requires Inv-loop μ-loop
-draw-distance-requires c κs = let s = c .before .before .before .before .before .before in (ready-after (c .before .before .loop .inv .1) (s .pre .0), s .pre .1, omega arith)
+draw-distance-requires c κs = let s = c .before .before .before .before .before .before .before in (ready-after (c .before .before .loop .inv .1) (s .pre .0), s .pre .1, omega arith)
 
 add-touched : tie.Need-add-touched Inv-loop μ-loop
 add-touched c =
-    let s = c .before .before .before .before .before .before .before .before .before in
+    let s = c .before .before .before .before .before .before .before .before .before .before in
     let law = s .pre .0 .placed .lawful in
     omega (arith, drawn-count law (c .before .before .before .before .before .loop .inv .1), drawn-count law (c .before .before .draw-distance .ensures))
 
 loop-again : tie.Need-loop-again Inv-loop μ-loop
 loop-again c =
     let l = c .before .before .before .before .before .loop in
-    let a = c .before .before .before .before .before .before .before .before .before .args in
+    let a = c .before .before .before .before .before .before .before .before .before .before .args in
     let R = a .ring .radius in
     let N = between (at (a .outer .now)) (at (a .inner .now)) in (
       omega arith,
@@ -52,7 +53,7 @@ same-length c = drawn-length (c .before .loop .inv .1)
 
 returns : tie.Need-returns Inv-loop μ-loop
 returns c =
-    let s = c .before .before .before .before .before in
+    let s = c .before .before .before .before .before .before in
     let a = s .args in
     let l = c .before .loop in
     let e : l .b ≡ a .ring .radius = omega arith in

@@ -2,6 +2,7 @@
 use Prim.Native.Nat.{ℕ, _+_}
 use native.Mathlib.Omega.{arith}
 use Rattle.numbers.specs.inner.Offset.{origin}
+use Rattle.lights.specs.inner.Palette.{lightsIn}
 use Rattle.page.specs.inner.Ink.{inkOf}
 use Rattle.page.proofs.Drawn.{drawn-join, drawn-count}
 use Rattle.coverage.specs.inner.Circle.{apart}
@@ -14,11 +15,11 @@ use Rattle.circles.proofs.mirror.draw_sides.Statement.{statement}
 use Rattle.circles.proofs.mirror.draw_sides.Tie as tie
 
 -- the states behind the edge, and at entry
-abbrev edge : tie.After-fill-sides → tie.After-blend-sides
+abbrev edge : tie.After-fill-sides → tie.After-outer-sides
 edge c = c .before .before .before .before
 
-abbrev start : tie.After-blend-sides → tie.Start
-start c = c .before .before .before .before .before
+abbrev start : tie.After-outer-sides → tie.Start
+start c = c .before .before .before .before .before .before
 
 -- the heights, and the coverage of the row by the distance from the centre's column
 abbrev Y : tie.Start → ℕ → ℕ
@@ -38,29 +39,29 @@ measured s = rw (s .pre .1 .0) at (s .pre .1 .2)
 filled : (c : tie.After-fill-sides)
     → let s = start (edge c) in
     let a = s .args in
-    SidesDrawn (inkOf (a .ring .level) 512) (a .view) (a .ring) (Y s) (Z s) (a .y) (a .row .inner) (a .row .whole)
-    (edge c .blend-sides .last .0) (c .fill-sides .last .0) (c .fill-sides .result)
+    SidesDrawn (inkOf (lightsIn (a .palette .now)) (a .ring .level) 512) (a .view) (a .ring) (Y s) (Z s) (a .y) (a .row .inner) (a .row .whole)
+    (edge c .outer-sides .last .0) (c .fill-sides .last .0) (c .fill-sides .result)
 filled c =
     let s = start (edge c) in
     let a = s .args in
-    filled-drawn (a .view) (a .ring) (Y s) (Z s) (a .ring .radius) (a .b) (a .y) (a .row) (s .pre .1 .0) (s .pre .1 .2) (c .fill-sides .ensures)
+    filled-drawn (a .view) (a .ring) (Y s) (Z s) (a .ring .radius) (a .b) (a .y) (a .row) (s .pre .0 .0 .placed .inked) (s .pre .1 .0) (s .pre .1 .2) (c .fill-sides .ensures)
 
 solid : (c : tie.After-fill-sides)
     → let s = start (edge c) in
     let a = s .args in
-    SidesDrawn (inkOf (a .ring .level) 512) (a .view) (a .ring) (Y s) (Z s) (a .y) (a .row .inner) (a .row .outer)
-    (a .page .now) (c .fill-sides .last .0) (edge c .blend-sides .result + c .fill-sides .result)
+    SidesDrawn (inkOf (lightsIn (a .palette .now)) (a .ring .level) 512) (a .view) (a .ring) (Y s) (Z s) (a .y) (a .row .inner) (a .row .outer)
+    (a .page .now) (c .fill-sides .last .0) (edge c .outer-sides .result + c .fill-sides .result)
 solid c =
     let s = start (edge c) in
     let a = s .args in
     let order = s .pre .1 .2 .order in
     drawn-join (rowSides (a .ring) (cover s) (a .y) (a .row .inner) (a .row .outer))
     (join-swap (sides-cut (a .ring) (cover s) (a .y) (a .row .inner) (a .row .outer) (a .row .whole) (order .1) (order .2)))
-    (edge c .blend-sides .ensures) (filled c)
+    (edge c .outer-sides .ensures) (filled c)
 
-blend-sides-requires : tie.Need-blend-sides-requires
-blend-sides-requires c κs =
-    let s = c .before .before .before .before in
+outer-sides-requires : tie.Need-outer-sides-requires
+outer-sides-requires c κs =
+    let s = c .before .before .before .before .before in
     let order = s .pre .1 .2 .order in
     ((s .pre .0 .0, s .pre .0 .1, order .2), (s .pre .1 .0, s .pre .1 .1, order .3))
 
@@ -69,7 +70,7 @@ fill-sides-requires c κs =
     let first = c .before .before .before in
     let s = start first in
     let order = s .pre .1 .2 .order in
-    (ready-after (first .blend-sides .ensures) (s .pre .0 .0) .placed .lawful, sides-nearer (s .args .row .whole) (order .2) (s .pre .0 .1), order .1)
+    (ready-after (first .outer-sides .ensures) (s .pre .0 .0) .placed .lawful, sides-nearer (s .args .row .whole) (order .2) (s .pre .0 .1), order .1)
 
 add-solid : tie.Need-add-solid
 add-solid c =
@@ -84,8 +85,8 @@ returns c =
     sides-row (a .ring) (Y s) (Z s) (a .y) (a .row .inner) (a .row .outer) (s .pre .0 .1)
     (λ k h. absurd (omega (arith, c .if1 .taken))) (measured s .outer-none) (solid f)
 
-blend-sides-requires-2 : tie.Need-blend-sides-requires-2
-blend-sides-requires-2 c κs =
+inner-sides-requires : tie.Need-inner-sides-requires
+inner-sides-requires c κs =
     let f = c .before .before .before .before .before in
     let s = start (edge f) in
     let order = s .pre .1 .2 .order in
@@ -98,7 +99,7 @@ add-result : tie.Need-add-result
 add-result c =
     let f = c .before .before .before .before .before .before .before .before in
     let law = start (edge f) .pre .0 .0 .placed .lawful in
-    omega (arith, drawn-count law (solid f), drawn-count law (c .before .before .blend-sides2 .ensures))
+    omega (arith, drawn-count law (solid f), drawn-count law (c .before .before .inner-sides .ensures))
 
 returns-2 : tie.Need-returns-2
 returns-2 c =
@@ -109,18 +110,18 @@ returns-2 c =
     sides-row (a .ring) (Y s) (Z s) (a .y) (a .row .hole) (a .row .outer) (s .pre .0 .1) (measured s .hole-none) (measured s .outer-none)
     (drawn-join (rowSides (a .ring) (cover s) (a .y) (a .row .hole) (a .row .outer))
     (join-swap (sides-cut (a .ring) (cover s) (a .y) (a .row .hole) (a .row .outer) (a .row .inner) (order .0) (omega arith)))
-    (solid f) (c .before .before .blend-sides2 .ensures))
+    (solid f) (c .before .before .inner-sides .ensures))
 
 pub draw-sides-spec : {M : Type 1} → statement M
 draw-sides-spec =
     tie.close
     (tie.spec
-    blend-sides-requires
+    outer-sides-requires
     fill-sides-requires
     add-solid
     (λ c. search needs)
     returns
-    blend-sides-requires-2
+    inner-sides-requires
     add-result
     (λ c. search needs)
     returns-2)

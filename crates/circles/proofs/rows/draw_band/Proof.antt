@@ -1,6 +1,7 @@
 -- The three stretches never meet, and together they are the band.
 use Prim.Native.Nat.{_+_, _≤_}
 use native.Mathlib.Omega.{arith}
+use Rattle.lights.specs.inner.Palette.{lightsIn}
 use Rattle.page.specs.inner.Ink.{inkOf}
 use Rattle.page.proofs.Drawn.{drawn-count, drawn-band}
 use Rattle.circles.specs.inner.Row.{at, betweenOn}
@@ -11,7 +12,7 @@ use Rattle.circles.proofs.rows.draw_band.Tie as tie
 
 -- the state at entry, and after each stretch
 abbrev start : tie.After-draw-edge → tie.Start
-start c = c .before .before .before .before .before
+start c = c .before .before .before .before .before .before
 
 abbrev left-edge : tie.After-fill-row → tie.After-draw-edge
 left-edge c = c .before .before .before .before
@@ -24,7 +25,7 @@ draw-edge-requires-2 c κs =
     let filled = c .before .before .before in
     let left = left-edge filled in
     let s = start left in
-    let d = filled .fill-row .ensures (inkOf (s .args .ring .level) 512) 512 (omega arith) (whole-ink _) in
+    let d = filled .fill-row .ensures (inkOf (lightsIn (s .args .palette .now)) (s .args .ring .level) 512) 512 (omega arith) (whole-ink (s .pre .0 .placed .inked)) in
     (ready-after d (ready-after (left .draw-edge .ensures) (s .pre .0)), omega arith)
 
 -- no stretch touches more pixels than a page has
@@ -32,7 +33,7 @@ few : (c : tie.After-draw-edge2) → left-edge (middle c) .draw-edge .result + m
 few c =
     let left = left-edge (middle c) in
     let s = start left in
-    let d = middle c .fill-row .ensures (inkOf (s .args .ring .level) 512) 512 (omega arith) (whole-ink _) in
+    let d = middle c .fill-row .ensures (inkOf (lightsIn (s .args .palette .now)) (s .args .ring .level) 512) 512 (omega arith) (whole-ink (s .pre .0 .placed .inked)) in
     let law = s .pre .0 .placed .lawful in
     omega (arith, drawn-count law (left .draw-edge .ensures), drawn-count law d, drawn-count law (c .draw-edge2 .ensures))
 
@@ -49,7 +50,7 @@ returns c =
     let left = left-edge filled in
     let s = start left in
     let a = s .args in
-    let d = filled .fill-row .ensures (inkOf (a .ring .level) 512) 512 (omega arith) (whole-ink _) in
+    let d = filled .fill-row .ensures (inkOf (lightsIn (a .palette .now)) (a .ring .level) 512) 512 (omega arith) (whole-ink (s .pre .0 .placed .inked)) in
     drawn-band (betweenOn (at (a .outer .now)) (at (a .inner .now)) (a .ring)) 512 (a .y) (a .p) (a .q) (a .r) (a .s)
     (omega arith) (omega arith) (omega arith) (s .pre .1 .whole)
     (left .draw-edge .ensures) d (right .draw-edge2 .ensures)

@@ -10,7 +10,7 @@ draw-band-requires : tie.Need-draw-band-requires
 draw-band-requires c κs =
     let right = c .before .before .before in
     let left = right .before .before in
-    let s = left .before .before .before .before .before in (
+    let s = left .before .before .before .before .before .before in (
       s .pre .0 .0,
       rw (left .before .left-at .ensures, left .left-at2 .ensures, right .before .right-at .ensures, right .right-at2 .ensures)
           (solid-band (s .args .ring) (s .args .y) (s .pre .0 .0 .placed .lawful) (s .pre .0 .1, s .pre .0 .2) (s .pre .1) (c .before .if1 .taken)),
@@ -20,7 +20,7 @@ returns : tie.Need-returns
 returns c =
     let right = c .before .before .before .before .before .before in
     let left = right .before .before .before in
-    let s = left .before .before .before .before in
+    let s = left .before .before .before .before .before in
     solid-row (s .args .ring) (s .args .y) (s .pre .0 .0 .placed .lawful) (s .pre .0 .1, s .pre .0 .2) (s .pre .1)
     (rw (left .left-at .ensures, right .right-at2 .ensures) at (c .before .before .draw-band .ensures))
 
@@ -28,7 +28,7 @@ draw-band-requires-2 : tie.Need-draw-band-requires-2
 draw-band-requires-2 c κs =
     let inner = c .before .before .before in
     let outer = inner .before .before .before .before .before .before in
-    let s = outer .before .before .before .before .before in (
+    let s = outer .before .before .before .before .before .before in (
       s .pre .0 .0,
       rw (outer .before .left-at .ensures, outer .left-at2 .ensures, inner .before .left-at3 .ensures, inner .left-at4 .ensures)
           (left-band (s .args .ring) (s .args .y) (s .pre .0 .0 .placed .lawful) (s .pre .0 .1, s .pre .0 .2) (s .pre .1)),
@@ -39,7 +39,7 @@ draw-band-requires-3 c κs =
     let first = c .before .before .before in
     let inner = first .before .before in
     let outer = inner .before .before .before .before .before .before in
-    let s = outer .before .before .before .before .before .before .before in (
+    let s = outer .before .before .before .before .before .before .before .before in (
       ready-after (first .draw-band2 .ensures) (s .pre .0 .0),
       rw (inner .before .right-at3 .ensures, inner .right-at4 .ensures, outer .before .right-at .ensures, outer .right-at2 .ensures)
           (right-band (s .args .ring) (s .args .y) (s .pre .0 .0 .placed .lawful) (s .pre .0 .1, s .pre .0 .2) (s .pre .1)),
@@ -50,7 +50,7 @@ abbrev columns : tie.After-right-at4 → tie.After-right-at2
 columns c = c .before .before .before .before .before .before
 
 abbrev start : tie.After-right-at4 → tie.Start
-start c = let left = columns c .before .before in left .before .before .before .before .before
+start c = let left = columns c .before .before in left .before .before .before .before .before .before
 
 add-result : tie.Need-add-result
 add-result c =
@@ -66,7 +66,7 @@ returns-2 c =
     let hole = first .before .before .before in
     let right = hole .before .before .before .before .before in
     let left = right .before .before .before in
-    let s = left .before .before .before .before in
+    let s = left .before .before .before .before .before in
     hollow-row (s .args .ring) (s .args .y) (s .pre .0 .0 .placed .lawful) (s .pre .0 .1, s .pre .0 .2) (s .pre .1)
     (rw (left .left-at .ensures, hole .before .left-at4 .ensures) at (first .draw-band2 .ensures))
     (rw (hole .right-at3 .ensures, right .right-at2 .ensures) at (second .draw-band3 .ensures))

@@ -4,6 +4,7 @@ use Prim.Native.Nat.{_+_, _-_, _*_, _≤_}
 use native.Mathlib.Omega.{arith}
 use lib.ListN.{length, take, drop}
 use borrow.Rule.Slice.PartMut.{mid-len}
+use Rattle.lights.specs.inner.Palette.{lightsIn}
 use Rattle.page.specs.inner.Ink.{inkOf}
 use Rattle.page.proofs.Paint.{row-end}
 use Rattle.page.proofs.Drawn.{drawn-stretch}
@@ -26,37 +27,37 @@ lent c =
     mid-len (a .y * a .view .w + a .from) (a .y * a .view .w + a .end) (a .page .now) (omega (arith, inside c)) ∙ omega arith
 
 mul-a : tie.Need-mul-a
-mul-a c = omega (arith, inside (c .before .before .before))
+mul-a c = omega (arith, inside (c .before .before .before .before))
 
 add-a : tie.Need-add-a
-add-a c = omega (arith, inside (c .before .before .before))
+add-a c = omega (arith, inside (c .before .before .before .before))
 
 mul-e : tie.Need-mul-e
-mul-e c = omega (arith, inside (c .before .before .before))
+mul-e c = omega (arith, inside (c .before .before .before .before))
 
 add-e : tie.Need-add-e
-add-e c = omega (arith, inside (c .before .before .before))
+add-e c = omega (arith, inside (c .before .before .before .before))
 
 part-blend-edge-end : tie.Need-part-blend-edge-end
-part-blend-edge-end c = omega (arith, inside (c .before .before .before .before))
+part-blend-edge-end c = omega (arith, inside (c .before .before .before .before .before))
 
 blend-edge-requires : tie.Need-blend-edge-requires
 blend-edge-requires c κs =
-    let s = c .before .before .before .before .before in
+    let s = c .before .before .before .before .before .before in
     let a = s .args in
     let near = s .pre .0 .placed .near in
     let most = s .pre .0 .circles .nested .most in (
-      (s .pre .0 .circles, omega (arith, near .rows (a .y) (omega arith) (omega arith)), omega (arith, lent s)),
+      (s .pre .0 .placed .inked, s .pre .0 .circles, omega (arith, near .rows (a .y) (omega arith) (omega arith)), omega (arith, lent s)),
       λ i h. omega (arith, near .columns (a .from + i) (omega arith) (omega (arith, lent s)), most),
     )
 
 returns : tie.Need-returns
 returns c =
-    let s = c .before .before .before .before .before .before .before .before in
+    let s = c .before .before .before .before .before .before .before .before .before in
     let a = s .args in
     let b = c .before .before .before .before .apart-of .ensures in
     let e = c .before .before .blend-edge .ensures in
-    drawn-stretch (a .view .w) (a .view .h) (inkOf (a .ring .level) 512) (a .from) (a .end) (a .y)
+    drawn-stretch (a .view .w) (a .view .h) (inkOf (lightsIn (a .palette .now)) (a .ring .level) 512) (a .from) (a .end) (a .y)
     (betweenOn (at (a .outer .now)) (at (a .inner .now)) (a .ring)) (a .page .now) _ _
     (omega arith) (omega arith) (omega arith) (omega arith) (rw b at (e .0)) (rw (b, lent s) at (e .1))
 

@@ -57,7 +57,7 @@ returns-3 c =
     let kind = taken .before .before in
     let clip = kind .before .before .before .before in
     let size = clip .before in
-    let given = size .before .before .before .args .shape in
+    let given = size .before .before .before .before .args .shape in
     rw (line-taken (given .kind) (given .numbers) (kind .before .if1 .left) (kind .if2 .taken))
     (rw (taken .line-of .ensures, clip .clip-of .ensures, size .unsigned2 .ensures, size .before .unsigned .ensures) at (call .draw-line .ensures))
 
@@ -65,7 +65,7 @@ returns-3 c =
 returns-4 : tie.Need-returns-4
 unfolding takenOf shapeDrawn pageDrawn
 returns-4 c =
-    let given = c .before .before .before .before .before .before .before .args .shape in
+    let given = c .before .before .before .before .before .before .before .before .args .shape in
     rw (none-taken (given .kind) (given .numbers) (λ e. omega (arith, c .if1 .taken)) (λ e. omega (arith, c .if1 .taken))
     (λ e. omega (arith, c .if1 .taken)) (λ e. omega (arith, c .if1 .taken)))
     (refl, refl)
@@ -74,7 +74,7 @@ returns-5 : tie.Need-returns-5
 unfolding takenOf shapeDrawn pageDrawn
 returns-5 c =
     let rest = c .before .before in
-    let given = rest .before .before .before .before .before .before .args .shape in
+    let given = rest .before .before .before .before .before .before .before .args .shape in
     rw (none-taken (given .kind) (given .numbers) (λ e. omega (arith, c .if2 .left)) (λ e. omega (arith, c .if2 .left))
     (rest .match .rest .0 .1) (rest .match .rest .1))
     (refl, refl)

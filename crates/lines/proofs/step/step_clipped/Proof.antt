@@ -1,5 +1,6 @@
 -- The rows of the column are coverages, and its bytes in the clip lie on the page; drawing them is drawing the column's strip.
 use mathlib.Core.Path.{refl}
+use Rattle.lights.specs.inner.Palette.{lightsIn}
 use Rattle.page.specs.inner.Ink.{inkOf}
 use Rattle.lines.proofs.Steps.{covers, reaches, advances, stepped}
 use borrow.Author.Needs.{needs}
@@ -7,7 +8,7 @@ use Rattle.lines.proofs.step.step_clipped.Statement.{statement}
 use Rattle.lines.proofs.step.step_clipped.Tie as tie
 
 abbrev start : tie.After-line → tie.Start
-start c = c .before .before .before .before
+start c = c .before .before .before .before .before
 
 rows-of-requires : tie.Need-rows-of-requires
 rows-of-requires c κs =
@@ -21,7 +22,7 @@ draw-column-requires c κs =
     let pre = start (rows .before) .pre in
     let e = rows .rows-of .ensures in
     let v = covers pre in
-    (reaches pre, (rw e (v .upper), rw e (v .middle), rw e (v .lower), pre .ready .m-is))
+    (reaches pre, (pre .ready .inked, rw e (v .upper), rw e (v .middle), rw e (v .lower), pre .ready .m-is))
 
 advanced-requires : tie.Need-advanced-requires
 advanced-requires c κs =
@@ -35,7 +36,7 @@ returns c =
     let s = start (rows .before) in
     let a = s .args in
     let d = drawn .draw-column in
-    stepped (s .pre) (inkOf (a .s .level) (a .s .d)) (rows .rows-of .result) (a .page .now) (rows .rows-of .ensures) refl (d .result) (c .advanced .result) (d .last .0)
+    stepped (s .pre) (inkOf (lightsIn (a .palette .now)) (a .s .level) (a .s .d)) (rows .rows-of .result) (a .page .now) (rows .rows-of .ensures) refl (d .result) (c .advanced .result) (d .last .0)
     (c .advanced .ensures) (d .ensures .0) (d .ensures .1 .0) (d .ensures .1 .1)
 
 pub step-clipped-spec : {M : Type 1} → statement M

@@ -1,0 +1,16 @@
+-- The least whole number above 2^55/d is its quotient and one.
+use native.Mathlib.Nat.{div-le-self}
+use native.Mathlib.Omega.{arith}
+use Rattle.lights.proofs.CodeBlend.{reciprocal-is}
+use borrow.Author.Needs.{needs}
+use Rattle.lights.proofs.even.reciprocal.Statement.{statement}
+use Rattle.lights.proofs.even.reciprocal.Tie as tie
+
+add-result : tie.Need-add-result
+add-result c = omega (arith, div-le-self 36028797018963968 (c .args .d))
+
+returns : tie.Need-returns
+returns c = reciprocal-is (c .args .d) (omega arith)
+
+pub reciprocal-spec : {M : Type 1} → statement M
+reciprocal-spec = tie.close (tie.spec (λ c. search needs) add-result returns)

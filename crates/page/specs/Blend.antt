@@ -1,7 +1,0 @@
--- Blending a level over a byte (R6.1).
-use Prim.Native.Nat.{ℕ, _+_, _*_, _-_}
-use Rattle.numbers.specs.Nearest.{nearest}
-
--- level v over byte u at coverage n over d: (u·(d − n) + v·n) over d to the nearest, halves up
-unfoldable pub blend : ℕ → ℕ → ℕ → ℕ → ℕ
-blend u v n d = nearest (u * (d - n) + v * n) d
