@@ -1,7 +1,7 @@
 /* Misuses every call: numbers out of their ranges and far out of 16 bits, versions that there are
- * not, kinds that are no shape, no line or not of a version, no memory at all, lists cut at each
- * byte, places past the list. Each answer must tell the refusal and its place, and what was lent
- * must be as it was. */
+ * not, kinds that are no shape, no line or not of a version, lights that do not rise, no memory at
+ * all, lists cut at each byte, places past the list. Each answer must tell the refusal and its
+ * place, and what was lent must be as it was. */
 #include "greystroke.h"
 
 #include <stdbool.h>
@@ -21,6 +21,7 @@ static const struct greystroke_basis basis_2 = {2, SIDE, SIDE};
 static uint8_t page[SIDE * SIDE];
 static uint8_t room[ROOM];
 static uint8_t long_list[LIST_MOST + 1];
+static uint16_t lights[GREYSTROKE_CODES];
 static unsigned long calls;
 static bool wrong;
 
@@ -64,6 +65,24 @@ static bool same(struct greystroke_basis one, struct greystroke_basis other) {
         }                                                               \
     } while (0)
 
+/* ---- calls with fit lights ---- */
+
+static struct greystroke_draw_answer draw_shape(uint8_t *bytes, size_t length, uint32_t w,
+    uint32_t h, struct greystroke_clip clip, struct greystroke_shape shape) {
+    return greystroke_draw_shape(
+        bytes, length, w, h, lights, GREYSTROKE_CODES, clip, LEVEL, shape);
+}
+
+static struct greystroke_list_answer draw_list(
+    uint8_t *bytes, size_t length, const uint8_t *list, size_t list_length) {
+    return greystroke_draw_list(bytes, length, lights, GREYSTROKE_CODES, list, list_length);
+}
+
+static struct greystroke_check_answer check_list(
+    const uint8_t *list, size_t list_length, size_t page_length) {
+    return greystroke_check_list(list, list_length, page_length, lights, GREYSTROKE_CODES);
+}
+
 /* ---- shapes ---- */
 
 static bool is_line(struct greystroke_shape shape) {
@@ -73,8 +92,7 @@ static bool is_line(struct greystroke_shape shape) {
 
 /* A shape in each call that takes one. One that is no line has no last column. */
 static void try_shape(uint32_t number, struct greystroke_shape shape) {
-    REFUSED(draw, number, 0,
-        greystroke_draw_shape(page, sizeof page, SIDE, SIDE, whole, LEVEL, shape));
+    REFUSED(draw, number, 0, draw_shape(page, sizeof page, SIDE, SIDE, whole, shape));
     REFUSED(column, is_line(shape) ? number : GREYSTROKE_UNKNOWN_KIND, 0,
         greystroke_last_column(SIDE, SIDE, whole, shape));
     REFUSED(coverage, number, 0, greystroke_coverage(shape, 0, 0));
@@ -102,8 +120,7 @@ static void try_shapes(void) {
         struct greystroke_shape shape = {no_shape[i], {1, 1, 5, 3, 0, 0}};
         try_shape(GREYSTROKE_UNKNOWN_KIND, shape);
         /* before all other refusals */
-        REFUSED(draw, GREYSTROKE_UNKNOWN_KIND, 0,
-            greystroke_draw_shape(NULL, 0, 0, 0, whole, LEVEL, shape));
+        REFUSED(draw, GREYSTROKE_UNKNOWN_KIND, 0, draw_shape(NULL, 0, 0, 0, whole, shape));
         REFUSED(column, GREYSTROKE_UNKNOWN_KIND, 0, greystroke_last_column(0, 0, no_clip, shape));
         REFUSED(coverage, GREYSTROKE_UNKNOWN_KIND, 0, greystroke_coverage(shape, INT32_MAX, 0));
         WRITE_REFUSED(GREYSTROKE_UNKNOWN_KIND, 0, none,
@@ -184,8 +201,7 @@ static void try_basis(uint32_t number, struct greystroke_basis basis) {
 }
 
 static void try_size(uint32_t w, uint32_t h) {
-    REFUSED(draw, GREYSTROKE_PAGE_SIZE, 0,
-        greystroke_draw_shape(page, sizeof page, w, h, whole, LEVEL, lawful[2]));
+    REFUSED(draw, GREYSTROKE_PAGE_SIZE, 0, draw_shape(page, sizeof page, w, h, whole, lawful[2]));
     REFUSED(column, GREYSTROKE_PAGE_SIZE, 0, greystroke_last_column(w, h, whole, lawful[0]));
     for (uint32_t version = 1; version <= 2; version++)
         try_basis(GREYSTROKE_PAGE_SIZE, (struct greystroke_basis){version, w, h});
@@ -203,8 +219,7 @@ static void try_versions(void) {
 }
 
 static void try_clip(struct greystroke_clip clip) {
-    REFUSED(draw, GREYSTROKE_CLIP, 0,
-        greystroke_draw_shape(page, sizeof page, SIDE, SIDE, clip, LEVEL, lawful[2]));
+    REFUSED(draw, GREYSTROKE_CLIP, 0, draw_shape(page, sizeof page, SIDE, SIDE, clip, lawful[2]));
     REFUSED(column, GREYSTROKE_CLIP, 0, greystroke_last_column(SIDE, SIDE, clip, lawful[0]));
     WRITE_REFUSED(GREYSTROKE_CLIP, 10, basis_2,
         greystroke_write_clip(room, sizeof room, 10, basis_2, clip));
@@ -245,9 +260,30 @@ static void try_pages(void) {
     try_clip((struct greystroke_clip){0, 5, SIDE, 4});
     for (size_t n = 0; n < sizeof page; n++)
         REFUSED(draw, GREYSTROKE_PAGE_TOO_SHORT, 0,
-            greystroke_draw_shape(page, n, SIDE, SIDE, whole, LEVEL, lawful[2]));
+            draw_shape(page, n, SIDE, SIDE, whole, lawful[2]));
+    REFUSED(draw, GREYSTROKE_PAGE_TOO_SHORT, 0, draw_shape(NULL, 0, SIDE, SIDE, whole, lawful[2]));
+}
+
+/* ---- lights ---- */
+
+/* Unfit lights for one shape: before all that is tried after them, and after all before them. */
+static void try_lights(const uint16_t *unfit, size_t length) {
+    static const struct greystroke_shape no_line = {
+        GREYSTROKE_KIND_EXACT_LINE, {4096, 0, 4096, 0, 0, 0}};
+    static const struct greystroke_shape no_shape = {GREYSTROKE_KIND_PLAYER, {0}};
+    REFUSED(draw, GREYSTROKE_LIGHTS, 0,
+        greystroke_draw_shape(
+            page, sizeof page, SIDE, SIDE, unfit, length, whole, LEVEL, lawful[0]));
+    REFUSED(draw, GREYSTROKE_LIGHTS, 0,
+        greystroke_draw_shape(
+            page, sizeof page, SIDE, SIDE, unfit, length, no_clip, LEVEL, no_line));
     REFUSED(draw, GREYSTROKE_PAGE_TOO_SHORT, 0,
-        greystroke_draw_shape(NULL, 0, SIDE, SIDE, whole, LEVEL, lawful[2]));
+        greystroke_draw_shape(
+            page, sizeof page - 1, SIDE, SIDE, unfit, length, no_clip, LEVEL, no_line));
+    REFUSED(draw, GREYSTROKE_PAGE_SIZE, 0,
+        greystroke_draw_shape(NULL, 0, SIDE, 0, unfit, length, no_clip, LEVEL, no_line));
+    REFUSED(draw, GREYSTROKE_UNKNOWN_KIND, 0,
+        greystroke_draw_shape(NULL, 0, SIDE, 0, unfit, length, no_clip, LEVEL, no_shape));
 }
 
 /* ---- places ---- */
@@ -318,9 +354,9 @@ static void expect_touches(struct greystroke_list_answer drawn, size_t player) {
 }
 
 static void try_list(uint32_t number, size_t place, const uint8_t *bytes, size_t length) {
-    REFUSED(check, number, place, greystroke_check_list(bytes, length, sizeof page));
-    REFUSED(list, number, place, greystroke_draw_list(page, sizeof page, bytes, length));
-    expect_touches(greystroke_draw_list(page, sizeof page, bytes, length), PLAYERS);
+    REFUSED(check, number, place, check_list(bytes, length, sizeof page));
+    REFUSED(list, number, place, draw_list(page, sizeof page, bytes, length));
+    expect_touches(draw_list(page, sizeof page, bytes, length), PLAYERS);
 }
 
 /* The list with another byte. */
@@ -344,10 +380,56 @@ static void try_lengths(void) {
     memcpy(long_list, list, length);
     try_list(GREYSTROKE_LIST_TOO_LONG, 0, long_list, sizeof long_list);
     for (size_t n = 0; n < sizeof page; n++) {
-        REFUSED(check, GREYSTROKE_PAGE_TOO_SHORT, 0, greystroke_check_list(list, length, n));
-        REFUSED(list, GREYSTROKE_PAGE_TOO_SHORT, 0, greystroke_draw_list(page, n, list, length));
+        REFUSED(check, GREYSTROKE_PAGE_TOO_SHORT, 0, check_list(list, length, n));
+        REFUSED(list, GREYSTROKE_PAGE_TOO_SHORT, 0, draw_list(page, n, list, length));
     }
-    REFUSED(list, GREYSTROKE_PAGE_TOO_SHORT, 0, greystroke_draw_list(NULL, 0, list, length));
+    REFUSED(list, GREYSTROKE_PAGE_TOO_SHORT, 0, draw_list(NULL, 0, list, length));
+}
+
+/* Unfit lights for a list: at place 0, before its records and after its header and the page. */
+static void try_list_lights(const uint16_t *unfit, size_t length) {
+    size_t list_length = starts[records - 1];
+    REFUSED(check, GREYSTROKE_LIGHTS, 0,
+        greystroke_check_list(list, list_length, sizeof page, unfit, length));
+    REFUSED(list, GREYSTROKE_LIGHTS, 0,
+        greystroke_draw_list(page, sizeof page, unfit, length, list, list_length));
+    REFUSED(check, GREYSTROKE_LIGHTS, 0,
+        greystroke_check_list(list, starts[0], sizeof page, unfit, length));
+    REFUSED(list, GREYSTROKE_LIGHTS, 0,
+        greystroke_draw_list(page, sizeof page, unfit, length, list, list_length + 1));
+    REFUSED(check, GREYSTROKE_PAGE_TOO_SHORT, 0,
+        greystroke_check_list(list, list_length, sizeof page - 1, unfit, length));
+    REFUSED(list, GREYSTROKE_PAGE_TOO_SHORT, 0,
+        greystroke_draw_list(NULL, 0, unfit, length, list, list_length));
+    REFUSED(list, GREYSTROKE_CUT_SHORT, 0,
+        greystroke_draw_list(NULL, 0, unfit, length, NULL, 0));
+    REFUSED(check, GREYSTROKE_LIST_TOO_LONG, 0,
+        greystroke_check_list(long_list, sizeof long_list, 0, unfit, length));
+}
+
+static void try_unfit(const uint16_t *unfit, size_t length) {
+    try_lights(unfit, length);
+    try_list_lights(unfit, length);
+}
+
+/* Any number but 256; then two neighbours that are equal or fall, at each place. */
+static void try_all_lights(void) {
+    uint16_t unfit[GREYSTROKE_CODES + 1];
+    try_unfit(NULL, 0);
+    for (size_t k = 0; k < COUNT(unfit); k++)
+        unfit[k] = (uint16_t)(k * k);
+    for (size_t length = 0; length < GREYSTROKE_CODES; length += 15)
+        try_unfit(unfit, length);
+    unfit[GREYSTROKE_CODES] = UINT16_MAX;
+    try_unfit(unfit, COUNT(unfit));
+    for (size_t k = 0; k + 1 < GREYSTROKE_CODES; k++) {
+        uint16_t kept = unfit[k];
+        unfit[k] = unfit[k + 1];
+        try_unfit(unfit, GREYSTROKE_CODES);
+        unfit[k] = (uint16_t)(unfit[k + 1] + 1);
+        try_unfit(unfit, GREYSTROKE_CODES);
+        unfit[k] = kept;
+    }
 }
 
 static void try_bytes(void) {
@@ -425,9 +507,9 @@ static void try_lawful(void) {
     expect_read(PLAYER_RECORD, GREYSTROKE_KIND_PLAYER, player);
     for (size_t s = 0; s < COUNT(lawful); s++)
         expect_read(FIRST_SHAPE + s, lawful[s].kind, lawful[s].numbers);
-    struct greystroke_check_answer checked = greystroke_check_list(list, length, sizeof page);
+    struct greystroke_check_answer checked = check_list(list, length, sizeof page);
     struct greystroke_list_answer drawn =
-        greystroke_draw_list(page, sizeof page, list, length);
+        draw_list(page, sizeof page, list, length);
     if (checked.refusal != 0 || !same(checked.basis, basis_2) || checked.background != 9
         || drawn.refusal != 0 || drawn.w != SIDE || drawn.h != SIDE) {
         wrong = true;
@@ -439,6 +521,7 @@ static void try_lawful(void) {
 int main(void) {
     memset(page, BYTE, sizeof page);
     memset(room, BYTE, sizeof room);
+    greystroke_code_lights(lights);
     write_list();
     try_shapes();
     try_pixels();
@@ -448,6 +531,7 @@ int main(void) {
     try_players();
     try_places();
     try_lengths();
+    try_all_lights();
     try_bytes();
     try_records();
     try_lawful();

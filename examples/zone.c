@@ -1,5 +1,6 @@
-/* Writes a list of one disc of a player, draws it, tells how many pixels the player touched, and
- * sums the light left in the page's upper left quarter. */
+/* Writes a list of one disc of a player, draws it for a screen that shows each code in proportion,
+ * tells how many pixels the player touched, and sums the light left in the page's upper left
+ * quarter. */
 #include "greystroke.h"
 
 #include <inttypes.h>
@@ -9,6 +10,7 @@ enum { WIDTH = 32, HEIGHT = 32, BACKGROUND = 255, PLAYER = 3, LEVEL = 0, RADIUS 
 
 static uint8_t list[64];
 static uint8_t page[WIDTH * HEIGHT];
+static uint16_t lights[GREYSTROKE_CODES];
 
 /* Hands back how many bytes were written, or 0 after a refusal. */
 static size_t write_list(void) {
@@ -32,13 +34,15 @@ static uint64_t light(size_t left, size_t top, size_t right, size_t bottom) {
     uint64_t sum = 0;
     for (size_t y = top; y < bottom; y++)
         for (size_t x = left; x < right; x++)
-            sum += page[y * WIDTH + x];
+            sum += lights[page[y * WIDTH + x]];
     return sum;
 }
 
 int main(void) {
     size_t length = write_list();
-    struct greystroke_list_answer drawn = greystroke_draw_list(page, sizeof page, list, length);
+    greystroke_code_lights(lights);
+    struct greystroke_list_answer drawn =
+        greystroke_draw_list(page, sizeof page, lights, GREYSTROKE_CODES, list, length);
     if (drawn.refusal != 0) {
         printf("refused %" PRIu32 " at %zu\n", drawn.refusal, drawn.place);
         return 1;

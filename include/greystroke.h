@@ -3,13 +3,20 @@
  * Every call is proved in Rattle to keep the rules; this header is not checked against it. R1.1
  * and so on are clauses of docs/RULES.md.
  *
- * Memory. A page or a list is lent as its first byte and its length; a length of 0 may come with
- * any pointer, NULL too. While a call runs, nothing else may write what it was lent, nor read what
- * it was lent to write, and a page and a list may not overlap. No call keeps what it was lent, and
- * none has a state of its own: calls may run side by side on different memory.
+ * Memory. A page, a list and lights are each lent as their first element and their length; a
+ * length of 0 may come with any pointer, NULL too. Lights are aligned as uint16_t. While a call
+ * runs, nothing else may write what it was lent, nor read what it was lent to write, and a page may
+ * overlap neither a list nor lights. No call keeps what it was lent, and none has a state of its
+ * own: calls may run side by side, and share what they only read.
  *
  * A page of W by H has pixel (x, y) at byte y * W + x (R1.2). It may be longer: bytes past W * H
- * are never written.
+ * are never written. A byte of a page is a code.
+ *
+ * Lights. Light k is how much light the screen gives where it shows code k, in any unit. A drawing
+ * call turns codes into light, blends there, and writes the code whose light is nearest (R6.1). It
+ * is lent 256 lights, one for each code, each greater than the one before. greystroke_code_lights
+ * makes those of a screen that shows each code in proportion; examples/gamma.c says how to measure
+ * those of any other.
  *
  * Numbers. Every number may have any value that its type holds: what is out of its range is
  * refused, and nothing is narrowed in silence.
@@ -30,7 +37,7 @@ extern "C" {
 #endif
 
 /* The version of this interface: it grows where a program must be changed to be linked again. */
-#define GREYSTROKE_VERSION 2
+#define GREYSTROKE_VERSION 3
 
 /* ---- refusals (R8.1) ---- */
 
@@ -51,7 +58,8 @@ enum greystroke_refusal {
     GREYSTROKE_PAGE_TOO_SHORT = 21, /* a page shorter than W * H bytes */
     GREYSTROKE_NO_ROOM = 22,        /* too few bytes left in a list being written, or a place of a
                                        record under 10 or past the list */
-    GREYSTROKE_PLAYER = 31          /* a player above 7 */
+    GREYSTROKE_PLAYER = 31,         /* a player above 7 */
+    GREYSTROKE_LIGHTS = 32          /* lights not 256 in number, or not strictly rising */
 };
 
 /* ---- shapes and clips ---- */
@@ -110,6 +118,18 @@ struct greystroke_clip {
     uint32_t y1;
 };
 
+/* ---- lights ---- */
+
+/* One light for each code. */
+#define GREYSTROKE_CODES 256
+
+/* Fills lights equal to codes: light k is k. Half of code 255 on code 0 is then code 128. */
+static inline void greystroke_code_lights(uint16_t lights[GREYSTROKE_CODES]) {
+    uint16_t code;
+    for (code = 0; code < GREYSTROKE_CODES; code++)
+        lights[code] = code;
+}
+
 /* ---- one shape ---- */
 
 /* How many pixels the shape touched (R6.2): those inside the clip where its exact coverage is
@@ -120,11 +140,13 @@ struct greystroke_draw_answer {
     uint64_t touched;
 };
 
-/* Blends a shape at a level into the pixels of a page of w by h that the clip keeps (R6.1).
- * Refused, in this order: 4 where the kind is no shape, then 3, 21, 8, 7, 9, 10, 11 (R8.4, R8.7). */
+/* Blends a shape at a level, in light, into the pixels of a page of w by h that the clip keeps
+ * (R6.1). Refused, in this order: 4 where the kind is no shape, then 3, 21, 32, 8, 7, 9, 10, 11
+ * (R8.4, R8.7). */
 struct greystroke_draw_answer greystroke_draw_shape(
-    uint8_t *page, size_t page_length, uint32_t w, uint32_t h, struct greystroke_clip clip,
-    uint8_t level, struct greystroke_shape shape);
+    uint8_t *page, size_t page_length, uint32_t w, uint32_t h, const uint16_t *lights,
+    size_t lights_length, struct greystroke_clip clip, uint8_t level,
+    struct greystroke_shape shape);
 
 /* `found` is 1 where the line has a last column (R6.5), and 0 where it has none; `column` is then
  * 0. */
@@ -180,13 +202,14 @@ struct greystroke_list_answer {
     uint64_t touched[8];
 };
 
-/* Draws a list on a page (R7.5). The whole list is checked before a byte of the page is written.
- * Refused, in this order: 12, 5 (under 10 bytes), 1, 2, 3, 21, then record by record 4, 5 and
- * those of 7 to 11 and 31 that the kind has, last 6 (R8.2). The place is 0 for the header, 12 and
- * 21; else the record's first byte; the list's length where the end is missing; the first surplus
- * byte for 6. */
+/* Draws a list on a page, in light (R7.5). The whole list is checked before a byte of the page is
+ * written. Refused, in this order: 12, 5 (under 10 bytes), 1, 2, 3, 21, 32, then record by record
+ * 4, 5 and those of 7 to 11 and 31 that the kind has, last 6 (R8.2). The place is 0 for the header,
+ * 12, 21 and 32; else the record's first byte; the list's length where the end is missing; the
+ * first surplus byte for 6. */
 struct greystroke_list_answer greystroke_draw_list(
-    uint8_t *page, size_t page_length, const uint8_t *list, size_t list_length);
+    uint8_t *page, size_t page_length, const uint16_t *lights, size_t lights_length,
+    const uint8_t *list, size_t list_length);
 
 /* What the list's header says: its version, W and H, and its background. */
 struct greystroke_check_answer {
@@ -196,10 +219,11 @@ struct greystroke_check_answer {
     uint8_t background;
 };
 
-/* Checks a list as greystroke_draw_list does for a page of so many bytes: the same refusals, in
- * the same order, at the same places. */
+/* Checks a list as greystroke_draw_list does for a page of so many bytes and these lights: the same
+ * refusals, in the same order, at the same places. */
 struct greystroke_check_answer greystroke_check_list(
-    const uint8_t *list, size_t list_length, size_t page_length);
+    const uint8_t *list, size_t list_length, size_t page_length, const uint16_t *lights,
+    size_t lights_length);
 
 /* ---- one record read ---- */
 

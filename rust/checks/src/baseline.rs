@@ -3,26 +3,50 @@
 //! A line takes the closed form of each column, with a division for q and r, a clip test for each
 //! pixel and a division for each blend. A circle works out its heights by the processor's square
 //! root and draws each row of its box: the inside filled, the edges left and right of the centre
-//! from one coverage.
+//! from one coverage. In light each blend is a binary search over the middles between neighbouring
+//! lights, by cross products.
 
-use greystroke::{Clip, Disc, Line, Refusal, Ring, Shape, Size};
+use greystroke::{Clip, Disc, Lights, Line, Refusal, Ring, Shape, Size};
 
-/// What [`greystroke::draw_shape`] does.
+/// What [`greystroke::draw_shape`] does with lights equal to codes, which need no look at them.
 pub fn draw_shape(
     page: &mut [u8],
     size: Size,
+    _codes: &Lights,
     clip: Clip,
     level: u8,
+    shape: Shape,
+) -> Result<u64, Refusal> {
+    draw(page, size, clip, CodeInk { level }, shape)
+}
+
+/// What [`greystroke::draw_shape`] does with any lights.
+pub fn draw_shape_in_light(
+    page: &mut [u8],
+    size: Size,
+    lights: &Lights,
+    clip: Clip,
+    level: u8,
+    shape: Shape,
+) -> Result<u64, Refusal> {
+    draw(page, size, clip, LightInk { lights, level }, shape)
+}
+
+fn draw<I: Ink>(
+    page: &mut [u8],
+    size: Size,
+    clip: Clip,
+    ink: I,
     shape: Shape,
 ) -> Result<u64, Refusal> {
     if let Some(refusal) = first_refusal(page.len(), size, clip, shape) {
         return Err(refusal);
     }
-    Ok(paint(page, size, clip, level, shape))
+    Ok(paint(page, size, clip, ink, shape))
 }
 
 /// Draws what has no refusal.
-pub(crate) fn paint(page: &mut [u8], size: Size, clip: Clip, level: u8, shape: Shape) -> u64 {
+pub(crate) fn paint<I: Ink>(page: &mut [u8], size: Size, clip: Clip, ink: I, shape: Shape) -> u64 {
     let mut canvas = Canvas {
         page,
         width: size.width.into(),
@@ -30,7 +54,7 @@ pub(crate) fn paint(page: &mut [u8], size: Size, clip: Clip, level: u8, shape: S
         top: clip.y0.into(),
         right: clip.x1.into(),
         bottom: clip.y1.into(),
-        level,
+        ink,
     };
     match shape {
         Shape::Line(line) => draw_line(&mut canvas, line),
@@ -94,18 +118,82 @@ fn radius_refusal(radius: u16) -> Option<Refusal> {
     (!(1..=255).contains(&radius)).then_some(Refusal::Radius)
 }
 
-/// A page with the clip and the level in force.
-struct Canvas<'a> {
+/// A level, and how a byte is blended with it.
+pub(crate) trait Ink {
+    fn level(&self) -> u8;
+
+    fn blend(&self, old: u8, n: u64, d: u64) -> u8;
+
+    /// The same with a coverage of n over 512.
+    fn blend_512(&self, old: u8, n: u32) -> u8;
+}
+
+/// Codes are blended as they stand.
+pub(crate) struct CodeInk {
+    pub(crate) level: u8,
+}
+
+impl Ink for CodeInk {
+    fn level(&self) -> u8 {
+        self.level
+    }
+
+    fn blend(&self, old: u8, n: u64, d: u64) -> u8 {
+        let sum = u64::from(old) * (d - n) + u64::from(self.level) * n;
+        ((2 * sum + d) / (2 * d)) as u8
+    }
+
+    fn blend_512(&self, old: u8, n: u32) -> u8 {
+        let sum = u32::from(old) * (512 - n) + u32::from(self.level) * n;
+        ((sum + 256) / 512) as u8
+    }
+}
+
+/// Codes are turned into light.
+pub(crate) struct LightInk<'a> {
+    pub(crate) lights: &'a Lights,
+    pub(crate) level: u8,
+}
+
+impl Ink for LightInk<'_> {
+    fn level(&self) -> u8 {
+        self.level
+    }
+
+    /// The first code whose light is nearer than the next one's.
+    fn blend(&self, old: u8, n: u64, d: u64) -> u8 {
+        let lights = self.lights.as_slice();
+        let light = |code: usize| u64::from(lights[code]);
+        let blended = light(old.into()) * (d - n) + light(self.level.into()) * n;
+        let (mut low, mut high) = (0, 255);
+        while low < high {
+            let code = (low + high) / 2;
+            if 2 * blended < (light(code) + light(code + 1)) * d {
+                high = code;
+            } else {
+                low = code + 1;
+            }
+        }
+        low as u8
+    }
+
+    fn blend_512(&self, old: u8, n: u32) -> u8 {
+        self.blend(old, n.into(), 512)
+    }
+}
+
+/// A page with the clip and the ink in force.
+struct Canvas<'a, I> {
     page: &'a mut [u8],
     width: i64,
     left: i64,
     top: i64,
     right: i64,
     bottom: i64,
-    level: u8,
+    ink: I,
 }
 
-impl Canvas<'_> {
+impl<I: Ink> Canvas<'_, I> {
     /// Blends one pixel, if the clip keeps it and something covers it; says how many were touched.
     fn touch(&mut self, x: i64, y: i64, n: u64, d: u64) -> u64 {
         let kept = self.left <= x && x < self.right && self.top <= y && y < self.bottom;
@@ -113,28 +201,18 @@ impl Canvas<'_> {
             return 0;
         }
         let byte = &mut self.page[(y * self.width + x) as usize];
-        *byte = blend(*byte, self.level, n, d);
+        *byte = self.ink.blend(*byte, n, d);
         1
     }
 
-    /// The bytes of a row from one column to another, both brought into the clip.
-    fn stretch(&mut self, y: i64, from: i64, end: i64) -> &mut [u8] {
+    /// The bytes of a row from one column to another, both brought into the clip, and the ink.
+    fn stretch(&mut self, y: i64, from: i64, end: i64) -> (&mut [u8], &I) {
         let from = from.clamp(self.left, self.right);
         let end = end.clamp(from, self.right);
         let row = y * self.width;
-        &mut self.page[(row + from) as usize..(row + end) as usize]
+        let bytes = &mut self.page[(row + from) as usize..(row + end) as usize];
+        (bytes, &self.ink)
     }
-}
-
-fn blend(old: u8, level: u8, n: u64, d: u64) -> u8 {
-    let sum = u64::from(old) * (d - n) + u64::from(level) * n;
-    ((2 * sum + d) / (2 * d)) as u8
-}
-
-/// The same with a coverage of n over 512.
-fn blend_512(old: u8, level: u8, n: u32) -> u8 {
-    let sum = u32::from(old) * (512 - n) + u32::from(level) * n;
-    ((sum + 256) / 512) as u8
 }
 
 /// A line in its own columns and rows: the longer span runs along the columns and rows rise.
@@ -200,7 +278,7 @@ impl Frame {
     }
 }
 
-fn draw_line(canvas: &mut Canvas, line: Line) -> u64 {
+fn draw_line<I: Ink>(canvas: &mut Canvas<I>, line: Line) -> u64 {
     let frame = Frame::of(line);
     let d = frame.denominator(line.exact);
     let (from, end) = if frame.exchanged {
@@ -284,7 +362,7 @@ fn apart(centre: i64, c: i64) -> usize {
     distance as usize
 }
 
-fn draw_ring(canvas: &mut Canvas, x: i16, y: i16, radius: u16, hole: u16) -> u64 {
+fn draw_ring<I: Ink>(canvas: &mut Canvas<I>, x: i16, y: i16, radius: u16, hole: u16) -> u64 {
     let (x, y) = (i64::from(x), i64::from(y));
     let reach = i64::from(radius);
     let top = (y - reach).max(canvas.top);
@@ -303,7 +381,13 @@ fn draw_ring(canvas: &mut Canvas, x: i16, y: i16, radius: u16, hole: u16) -> u64
     rows.sum()
 }
 
-fn draw_disc_row(canvas: &mut Canvas, circle: &Circle, x: i64, y: i64, down: usize) -> u64 {
+fn draw_disc_row<I: Ink>(
+    canvas: &mut Canvas<I>,
+    circle: &Circle,
+    x: i64,
+    y: i64,
+    down: usize,
+) -> u64 {
     let (whole, end) = circle.widths(down);
     fill(canvas, y, x - whole as i64, x + whole as i64)
         + blend_edges(canvas, x, y, whole, end, |across| {
@@ -312,8 +396,8 @@ fn draw_disc_row(canvas: &mut Canvas, circle: &Circle, x: i64, y: i64, down: usi
 }
 
 /// A row past the hole needs no heights of the inner circle.
-fn draw_ring_row(
-    canvas: &mut Canvas,
+fn draw_ring_row<I: Ink>(
+    canvas: &mut Canvas<I>,
     outer: &Circle,
     inner: &Circle,
     x: i64,
@@ -334,16 +418,15 @@ fn draw_ring_row(
         + blend_edges(canvas, x, y, hole, edge, cover)
 }
 
-fn fill(canvas: &mut Canvas, y: i64, from: i64, end: i64) -> u64 {
-    let level = canvas.level;
-    let bytes = canvas.stretch(y, from, end);
-    bytes.fill(level);
+fn fill<I: Ink>(canvas: &mut Canvas<I>, y: i64, from: i64, end: i64) -> u64 {
+    let (bytes, ink) = canvas.stretch(y, from, end);
+    bytes.fill(ink.level());
     bytes.len() as u64
 }
 
 /// Blends what lies `from` to `end` away from the centre: one coverage for the two sides of a row.
-fn blend_edges(
-    canvas: &mut Canvas,
+fn blend_edges<I: Ink>(
+    canvas: &mut Canvas<I>,
     x: i64,
     y: i64,
     from: usize,
@@ -359,14 +442,14 @@ fn blend_edges(
         });
         return touches.sum();
     }
-    let level = canvas.level;
-    let (left, right) = canvas.stretch(y, x - reach, x + reach).split_at_mut(end);
+    let (bytes, ink) = canvas.stretch(y, x - reach, x + reach);
+    let (left, right) = bytes.split_at_mut(end);
     let sides = left[..end - from].iter_mut().rev().zip(&mut right[from..]);
     let mut touched = 0;
     for (across, (left, right)) in (from..end).zip(sides) {
         let n = cover(across);
-        *left = blend_512(*left, level, n);
-        *right = blend_512(*right, level, n);
+        *left = ink.blend_512(*left, n);
+        *right = ink.blend_512(*right, n);
         touched += if n > 0 { 2 } else { 0 };
     }
     touched

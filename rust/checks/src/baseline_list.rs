@@ -2,17 +2,21 @@
 //!
 //! The list is read twice, record by record: once to find its first refusal, once to draw.
 
-use crate::baseline::{clip_refusal, page_refusal, paint, shape_refusal};
+use crate::baseline::{clip_refusal, page_refusal, paint, shape_refusal, CodeInk, Ink, LightInk};
 use greystroke::{
-    Clip, Disc, Header, Line, ListRefusal, Picture, Record, Refusal, Ring, Setting, Shape, Size,
-    PLAYERS,
+    Clip, Disc, Header, Lights, Line, ListRefusal, Picture, Record, Refusal, Ring, Setting, Shape,
+    Size, PLAYERS,
 };
 
 const LONGEST_LIST: usize = 65_536;
 const HEADER_LENGTH: usize = 10;
 
-/// What [`greystroke::check_list`] does.
-pub fn check_list(list: &[u8], page_length: usize) -> Result<Header, ListRefusal> {
+/// What [`greystroke::check_list`] does. Lights of that type are fit.
+pub fn check_list(
+    list: &[u8],
+    page_length: usize,
+    _lights: &Lights,
+) -> Result<Header, ListRefusal> {
     let at = |place| move |refusal| ListRefusal { refusal, place };
     let header = check_header(list, page_length).map_err(at(0))?;
     let mut place = HEADER_LENGTH;
@@ -32,13 +36,31 @@ pub fn check_list(list: &[u8], page_length: usize) -> Result<Header, ListRefusal
     Ok(header)
 }
 
-/// What [`greystroke::draw_list`] does.
-pub fn draw_list(page: &mut [u8], list: &[u8]) -> Result<Picture, ListRefusal> {
+/// What [`greystroke::draw_list`] does with lights equal to codes.
+pub fn draw_list(page: &mut [u8], codes: &Lights, list: &[u8]) -> Result<Picture, ListRefusal> {
+    draw(page, codes, list, |level| CodeInk { level })
+}
+
+/// What [`greystroke::draw_list`] does with any lights.
+pub fn draw_list_in_light(
+    page: &mut [u8],
+    lights: &Lights,
+    list: &[u8],
+) -> Result<Picture, ListRefusal> {
+    draw(page, lights, list, |level| LightInk { lights, level })
+}
+
+fn draw<I: Ink>(
+    page: &mut [u8],
+    lights: &Lights,
+    list: &[u8],
+    ink: impl Fn(u8) -> I,
+) -> Result<Picture, ListRefusal> {
     let Header {
         version,
         size,
         background,
-    } = check_list(list, page.len())?;
+    } = check_list(list, page.len(), lights)?;
     page[..usize::from(size.width) * usize::from(size.height)].fill(background);
     let mut clip = Clip::whole(size);
     let mut level = 255;
@@ -51,7 +73,7 @@ pub fn draw_list(page: &mut [u8], list: &[u8]) -> Result<Picture, ListRefusal> {
             Record::Setting(Setting::Clip(next)) => clip = next,
             Record::Setting(Setting::Level(next)) => level = next,
             Record::Setting(Setting::Player(next)) => player = usize::from(next),
-            Record::Shape(shape) => touched[player] += paint(page, size, clip, level, shape),
+            Record::Shape(shape) => touched[player] += paint(page, size, clip, ink(level), shape),
         }
         rest = &rest[length..];
     }

@@ -11,8 +11,8 @@ pub fn answer(line: &str) -> String {
         "draws" => rows::draws(call, library::draw_shape),
         "writes" => rows::writes(call, library::write),
         "reads" => rows::reads(call, library::read_record),
-        "lists" => rows::lists(call, |list, page| {
-            library::draw_list(list, page).map(|drawn| drawn.touched)
+        "lists" => rows::lists(call, |list, page, lights| {
+            library::draw_list(list, page, lights).map(|drawn| drawn.touched)
         }),
         _ => format!("no answers for {table}"),
     }

@@ -1,5 +1,7 @@
-//! Random pages, clips and shapes on them, lawful or not. Most shapes meet the clip or just miss it.
+//! Random pages, lights, clips and shapes on them, lawful or not. Most shapes meet the clip or just
+//! miss it.
 
+use crate::lights::{fit_lights, spoil_lights};
 use crate::random::Random;
 use crate::rows::ShapeCall;
 use crate::strokes::{clamped, longest_line, on_circle, push_outside};
@@ -10,10 +12,15 @@ const UNLAWFUL_SIDES: [u16; 3] = [0, 1025, u16::MAX];
 /// The reference asks every pixel of the clip, so that a clip is kept small on any page.
 pub(crate) const LONGEST_CLIP: i64 = 24;
 
-/// A page, a clip, a level and a shape; about one in three is turned down.
-pub fn drawing(random: &mut Random) -> ShapeCall {
+/// A page, lights, a clip, a level and a shape; about one in three is turned down. What the lights
+/// are called comes with it.
+pub fn drawing(random: &mut Random) -> (&'static str, ShapeCall) {
     let (width, height) = sides(random);
     let page = page(random, width, height);
+    let (name, mut lights) = fit_lights(random);
+    if random.one_in(16) {
+        spoil_lights(random, &mut lights);
+    }
     let mut clip = clip(random, width, height);
     let near = point_near(random, &clip);
     let mut shape = shape(random, near, &clip);
@@ -24,14 +31,16 @@ pub fn drawing(random: &mut Random) -> ShapeCall {
         spoil_shape(random, &mut shape);
     }
     let any = random.between(0, 255) as u8;
-    ShapeCall {
+    let call = ShapeCall {
         page,
         width,
         height,
+        lights,
         clip,
         level: random.pick(&[0, 255, any, any]),
         shape,
-    }
+    };
+    (name, call)
 }
 
 pub(crate) fn sides(random: &mut Random) -> (u16, u16) {

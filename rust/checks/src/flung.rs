@@ -18,14 +18,16 @@ pub struct LineCall {
 }
 
 impl LineCall {
-    /// The line on a page that is long enough; none has to be where the size is unlawful.
-    pub fn drawing(&self) -> ShapeCall {
+    /// The line in these lights on a page that is long enough; none has to be where the size is
+    /// unlawful.
+    pub fn drawing(&self, lights: Vec<u16>) -> ShapeCall {
         let lawful = page_size_refusal(self.width, self.height).is_none();
         let pixels = page_length(self.width, self.height);
         ShapeCall {
             page: starting_page(if lawful { pixels } else { 0 }),
             width: self.width,
             height: self.height,
+            lights,
             clip: self.clip,
             level: 200,
             shape: Shape::Line(self.line),

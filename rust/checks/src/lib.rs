@@ -8,6 +8,7 @@ pub mod classes;
 pub mod drawings;
 pub mod flung;
 pub mod library;
+pub mod lights;
 pub mod listings;
 pub mod notation;
 pub mod pictures;

@@ -1,7 +1,10 @@
 //! The library's calls on the reference's types, so that answers can be compared.
+//!
+//! Fit lights are tried once and lent as such; unfit ones are lent raw, for the library to refuse.
 
 use crate::notation::Writable;
 use crate::rows::{ShapeCall, Writing};
+use greystroke::{raw, Lights};
 use reference::coverage::Fraction;
 use reference::format::Header;
 use reference::list::Drawn;
@@ -32,7 +35,12 @@ pub fn draw_shape(call: &mut ShapeCall) -> Result<u64, Refused> {
     let size = library_size(call.width, call.height);
     let clip = library_clip(&call.clip);
     let shape = library_shape(&call.shape);
-    greystroke::draw_shape(&mut call.page, size, clip, call.level, shape).map_err(without_place)
+    let (page, level) = (&mut call.page, call.level);
+    let outcome = match Lights::new(&call.lights) {
+        Ok(lights) => greystroke::draw_shape(page, size, &lights, clip, level, shape),
+        Err(_) => raw::draw_shape(page, size, &call.lights, clip, level, shape),
+    };
+    outcome.map_err(without_place)
 }
 
 /// The record and the bytes past it; with a refusal all that was lent.
@@ -43,8 +51,12 @@ pub fn read_record(bytes: &[u8], basis: Basis) -> (Result<Record, Refused>, &[u8
     }
 }
 
-pub fn check_list(list: &[u8], page_length: usize) -> Result<Header, Refused> {
-    match greystroke::check_list(list, page_length) {
+pub fn check_list(list: &[u8], page_length: usize, lights: &[u16]) -> Result<Header, Refused> {
+    let outcome = match Lights::new(lights) {
+        Ok(lights) => greystroke::check_list(list, page_length, &lights),
+        Err(_) => raw::check_list(list, page_length, lights),
+    };
+    match outcome {
         Ok(header) => Ok(Header {
             version: header.version,
             width: header.size.width,
@@ -55,8 +67,12 @@ pub fn check_list(list: &[u8], page_length: usize) -> Result<Header, Refused> {
     }
 }
 
-pub fn draw_list(list: &[u8], page: &mut [u8]) -> Result<Drawn, Refused> {
-    match greystroke::draw_list(page, list) {
+pub fn draw_list(list: &[u8], page: &mut [u8], lights: &[u16]) -> Result<Drawn, Refused> {
+    let outcome = match Lights::new(lights) {
+        Ok(lights) => greystroke::draw_list(page, &lights, list),
+        Err(_) => raw::draw_list(page, lights, list),
+    };
+    match outcome {
         Ok(picture) => Ok(Drawn {
             width: picture.size.width,
             height: picture.size.height,

@@ -9,6 +9,7 @@ pub fn draw_shape(call: &mut ShapeCall) -> Result<u64, Refused> {
         &mut call.page,
         call.width,
         call.height,
+        &call.lights,
         &call.clip,
         call.level,
         &call.shape,

@@ -3,6 +3,7 @@
 //! The call itself is handed in, so that the reference and the library answer by the same text.
 
 use crate::cases::{parse_hex, show_hex};
+use crate::lights::parse_lights;
 use crate::notation::{
     narrow, numbers, parse_clip, parse_line, parse_shape, parse_writable, show_record, Writable,
 };
@@ -18,12 +19,13 @@ pub struct Writing {
     pub basis: Basis,
 }
 
-/// A page and the settings for one shape on it.
+/// A page, the lights of its screen, and the settings for one shape on it.
 #[derive(Clone, Debug)]
 pub struct ShapeCall {
     pub page: Vec<u8>,
     pub width: u16,
     pub height: u16,
+    pub lights: Vec<u16>,
     pub clip: Clip,
     pub level: u8,
     pub shape: Shape,
@@ -52,7 +54,7 @@ pub fn columns(
 }
 
 pub fn draws(call: &str, draw: impl Fn(&mut ShapeCall) -> Result<u64, Refused>) -> String {
-    let [sizes, clip, shape, level] = fields(call);
+    let [sizes, lights, clip, shape, level] = fields(call);
     let [length, width, height]: [usize; 3] = numbers(sizes);
     let [level] = numbers(level);
     let before = starting_page(length);
@@ -60,6 +62,7 @@ pub fn draws(call: &str, draw: impl Fn(&mut ShapeCall) -> Result<u64, Refused>) 
         page: before.clone(),
         width: narrow(width),
         height: narrow(height),
+        lights: parse_lights(lights),
         clip: parse_clip(clip),
         level,
         shape: parse_shape(shape),
@@ -113,13 +116,13 @@ pub fn reads(
 
 pub fn lists(
     call: &str,
-    draw: impl Fn(&[u8], &mut [u8]) -> Result<[u64; PLAYERS], Refused>,
+    draw: impl Fn(&[u8], &mut [u8], &[u16]) -> Result<[u64; PLAYERS], Refused>,
 ) -> String {
-    let [length, hex] = fields(call);
+    let [length, lights, hex] = fields(call);
     let [length] = numbers(length);
     let before = starting_page(length);
     let mut page = before.clone();
-    match draw(&parse_hex(hex), &mut page) {
+    match draw(&parse_hex(hex), &mut page, &parse_lights(lights)) {
         Ok(touched) => show_page(&touched, &page),
         Err(refusal) => {
             let told = format!("refused {} at {}", refusal.number, refusal.place);
@@ -128,9 +131,9 @@ pub fn lists(
     }
 }
 
-/// The parts of a call, parted by colons.
+/// The parts of a call, parted by colons with a blank in front: any other belongs to its word.
 fn fields<const N: usize>(call: &str) -> [&str; N] {
-    let parts: Vec<&str> = call.split(':').map(str::trim).collect();
+    let parts: Vec<&str> = call.split(" :").map(str::trim).collect();
     let array = parts.try_into().ok();
     array.unwrap_or_else(|| panic!("{N} parts expected in `{call}`"))
 }

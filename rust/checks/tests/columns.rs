@@ -5,6 +5,7 @@ use checks::calls::answer;
 use checks::cases::rows;
 use checks::classes::{direction, directions, kind, Tally};
 use checks::flung::{line_call, LineCall};
+use checks::lights::named;
 use checks::random::Random;
 use checks::{library, reference_page};
 use reference::column::{last_column, touched_columns};
@@ -189,15 +190,27 @@ fn agreed(call: &LineCall) -> Answer {
     let found = library::last_column(*width, *height, clip, line);
     assert_eq!(found, expected, "{call:?}");
 
-    let (mut expected_page, mut found_page) = (call.drawing(), call.drawing());
-    let expected_count = reference_page::draw_shape(&mut expected_page);
-    let found_count = library::draw_shape(&mut found_page);
-    assert_eq!(found_count, expected_count, "{call:?}");
-    assert!(found_page.page == expected_page.page, "{call:?}");
-    // A page that is long enough is refused alike, and something is drawn where a column is found.
-    let drawn = found_count.map(|touched| touched > 0);
-    assert_eq!(drawn, found.map(|last| last.is_some()), "{call:?}");
+    for lights in ["codes", "gamma"] {
+        let drawn = drawn_alike(call, named(lights));
+        // A page that is long enough is refused alike, and touched where a column is found.
+        assert_eq!(
+            drawn,
+            found.map(|last| last.is_some()),
+            "{lights}: {call:?}"
+        );
+    }
     expected
+}
+
+/// Whether the drawing, by the reference and by the library alike, touches anything.
+fn drawn_alike(call: &LineCall, lights: Vec<u16>) -> Result<bool, Refused> {
+    let mut expected = call.drawing(lights);
+    let mut found = expected.clone();
+    let expected_count = reference_page::draw_shape(&mut expected);
+    let found_count = library::draw_shape(&mut found);
+    assert_eq!(found_count, expected_count, "{call:?}");
+    assert!(found.page == expected.page, "{call:?}");
+    found_count.map(|touched| touched > 0)
 }
 
 #[test]
@@ -260,5 +273,5 @@ fn stored_rows_agree() {
         let found = answer(&format!("columns {}", row.call));
         assert_eq!(found, row.answer, "{}", row.call);
     }
-    assert_eq!(rows.len(), 90);
+    assert_eq!(rows.len(), 134);
 }

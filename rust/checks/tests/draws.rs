@@ -1,14 +1,17 @@
-//! One shape on a page: the library against the reference on random drawings, on the stored rows,
-//! and on the reference strokes of document 01 that concern drawing.
+//! One shape on a page: the library against the reference on random drawings in many lights, on the
+//! stored rows, and on the reference strokes of document 01 that concern drawing.
 
 use checks::calls::answer;
 use checks::cases::rows;
 use checks::classes::{direction, directions, kind, signed_spans, Tally};
 use checks::drawings::drawing;
+use checks::lights::{fit_lights, named, rising_lights, spoil_lights, FIT, UNFIT};
 use checks::random::Random;
 use checks::rows::ShapeCall;
 use checks::{library, reference_page};
+use greystroke::Lights;
 use reference::coverage::exact_coverage;
+use reference::lights::lights_refusal;
 use reference::page::page_length;
 use reference::refusal::Refused;
 use reference::shape::{page_size_refusal, Clip, Disc, Line, Ring, Shape};
@@ -19,15 +22,23 @@ const LEAST: u32 = 30;
 
 type Answer = Result<u64, Refused>;
 
-/// Classes that a run must meet.
-fn wanted() -> Vec<String> {
-    let refusals = [3, 21, 8, 7, 9, 10, 11];
+/// Refusals that a run must meet.
+fn wanted_refusals() -> Vec<String> {
+    let refusals = [3, 21, 32, 8, 7, 9, 10, 11];
     let mut wanted: Vec<String> = refusals.map(|n| format!("refused {n}")).into();
     let pairs = [(3, 8), (3, 9), (21, 8), (21, 7), (8, 7), (8, 9), (8, 10)];
+    let of_lights = [(3, 32), (21, 32), (32, 8), (32, 7), (32, 9), (32, 10)];
+    let pairs = pairs.into_iter().chain(of_lights);
     wanted.extend(pairs.map(|(first, next)| format!("refused {first} before {next}")));
     let sides = ["W is 0", "W is 1025", "H is 0", "H is 1025"];
     wanted.extend(sides.map(String::from));
     wanted.extend(["refused 21: no byte", "refused 21: one byte short"].map(String::from));
+    wanted
+}
+
+/// Classes that a run must meet.
+fn wanted() -> Vec<String> {
+    let mut wanted = wanted_refusals();
     wanted.extend(["empty clip", "empty clip at the last corner"].map(String::from));
     for kind in ["exact", "approximate", "disc", "ring"] {
         let drawn = [
@@ -47,6 +58,8 @@ fn wanted() -> Vec<String> {
             "leaves touched bytes",
         ];
         wanted.extend(drawn.map(|class| format!("{kind} {class}")));
+        let lights = FIT.into_iter().chain(["random"]);
+        wanted.extend(lights.map(|name| format!("{kind} in lights {name}")));
     }
     for kind in ["exact", "approximate"] {
         wanted.extend(directions().iter().map(|way| format!("{kind} {way}")));
@@ -58,8 +71,8 @@ fn wanted() -> Vec<String> {
     wanted
 }
 
-/// Classes of a drawing, by the call before and after and its answer.
-fn classes(before: &ShapeCall, after: &ShapeCall, answer: &Answer) -> Vec<String> {
+/// Classes of a drawing, by the name of its lights, the call before and after, and its answer.
+fn classes(lights: &str, before: &ShapeCall, after: &ShapeCall, answer: &Answer) -> Vec<String> {
     let touched = match answer {
         Err(refusal) => return refusal_classes(before, refusal),
         Ok(touched) => *touched,
@@ -78,6 +91,7 @@ fn classes(before: &ShapeCall, after: &ShapeCall, answer: &Answer) -> Vec<String
         return classes;
     }
     let mut drawn = settings_classes(before);
+    drawn.push(format!("in lights {lights}"));
     drawn.extend(cut_classes(before));
     drawn.extend(shape_classes(before));
     let changed = before.page.iter().zip(&after.page).filter(|(u, v)| u != v);
@@ -96,6 +110,7 @@ fn refusal_classes(call: &ShapeCall, refusal: &Refused) -> Vec<String> {
     let mut classes = vec![format!("refused {first}")];
     let later = [
         page_size_refusal(width, height),
+        lights_refusal(&call.lights),
         call.clip.first_refusal(width, height),
         call.shape.coordinate_refusal(),
         call.shape.form_refusal(),
@@ -224,12 +239,16 @@ fn describe(call: &ShapeCall) -> String {
         page,
         width,
         height,
+        lights,
         clip,
         level,
         shape,
     } = call;
     let length = page.len();
-    format!("{shape:?} at level {level} under {clip:?} on {width} by {height}, {length} bytes")
+    format!(
+        "{shape:?} at level {level} under {clip:?} on {width} by {height}, {length} bytes, \
+         in lights {lights:?}"
+    )
 }
 
 /// Draws by the reference and by the library, which must agree.
@@ -251,54 +270,56 @@ fn random_draws_agree() {
     let mut random = Random::new(2);
     let mut tally = Tally::default();
     for _ in 0..DRAWS {
-        let call = drawing(&mut random);
+        let (lights, call) = drawing(&mut random);
         let (expected, answer) = agreed(&call);
-        tally.meet(classes(&call, &expected, &answer));
+        tally.meet(classes(lights, &call, &expected, &answer));
     }
     tally.require(wanted(), LEAST);
 }
 
+/// A disc and rings of several widths.
+fn circles(middle: i16, radius: u16) -> Vec<Shape> {
+    let (x, y) = (middle, middle);
+    let widths = [1, radius / 2, radius - 1, radius];
+    let rings = widths.into_iter().filter(|width| *width > 0).map(|width| {
+        Shape::Ring(Ring {
+            x,
+            y,
+            radius,
+            width,
+        })
+    });
+    [Shape::Disc(Disc { x, y, radius })]
+        .into_iter()
+        .chain(rings)
+        .collect()
+}
+
 /// Circles that just fit the clip, and those that each side of it cuts by a pixel: radii around
-/// the one up to which heights are held in a short array, discs and rings of several widths.
+/// the one up to which heights are held in a short array.
 #[test]
 fn circles_at_the_sides_of_a_clip_agree() {
     for radius in [1, 2, 5, 31, 32, 33, 34] {
         let side = 2 * radius + 4;
-        let middle = (side / 2) as i16;
-        let mut shapes = vec![Shape::Disc(Disc {
-            x: middle,
-            y: middle,
-            radius,
-        })];
-        let widths = [1, radius / 2, radius - 1, radius];
-        shapes.extend(widths.into_iter().filter(|width| *width > 0).map(|width| {
-            Shape::Ring(Ring {
-                x: middle,
-                y: middle,
-                radius,
-                width,
-            })
-        }));
-        for (shape, cut) in shapes
-            .iter()
+        for (shape, cut) in circles((side / 2) as i16, radius)
+            .into_iter()
             .flat_map(|shape| (0..16).map(move |cut| (shape, cut)))
         {
             let edge = |bit: u16| 2 + (cut >> bit & 1);
-            let call = ShapeCall {
-                page: vec![90; page_length(side, side)],
-                width: side,
-                height: side,
-                clip: Clip {
-                    x0: edge(0),
-                    y0: edge(1),
-                    x1: side - edge(2),
-                    y1: side - edge(3),
-                },
-                level: 200,
-                shape: shape.clone(),
+            let clip = Clip {
+                x0: edge(0),
+                y0: edge(1),
+                x1: side - edge(2),
+                y1: side - edge(3),
             };
-            let (_, answer) = agreed(&call);
-            assert!(answer.is_ok(), "{}", describe(&call));
+            for lights in ["codes", "gamma"] {
+                let call = ShapeCall {
+                    clip,
+                    ..call_of(side, 90, named(lights), 200, shape)
+                };
+                let (_, answer) = agreed(&call);
+                assert!(answer.is_ok(), "{}", describe(&call));
+            }
         }
     }
 }
@@ -310,19 +331,25 @@ fn stored_rows_agree() {
         let found = answer(&format!("draws {}", row.call));
         assert_eq!(found, row.answer, "{}", row.call);
     }
-    assert_eq!(rows.len(), 267);
+    assert_eq!(rows.len(), 392);
 }
 
-/// The answer and the page after one shape on a page of one level, under a whole clip.
-fn drawn(side: u16, background: u8, level: u8, shape: Shape) -> (Answer, Vec<u8>) {
-    let mut call = ShapeCall {
+/// A page of one level and one shape on it, under a whole clip.
+fn call_of(side: u16, background: u8, lights: Vec<u16>, level: u8, shape: Shape) -> ShapeCall {
+    ShapeCall {
         page: vec![background; page_length(side, side)],
         width: side,
         height: side,
+        lights,
         clip: Clip::whole(side, side),
         level,
         shape,
-    };
+    }
+}
+
+/// The answer and the page after such a call, with lights equal to codes.
+fn drawn(side: u16, background: u8, level: u8, shape: Shape) -> (Answer, Vec<u8>) {
+    let mut call = call_of(side, background, named("codes"), level, shape);
     (library::draw_shape(&mut call), call.page)
 }
 
@@ -336,16 +363,26 @@ fn line(exact: bool, x0: i16, y0: i16, x1: i16, y1: i16) -> Shape {
     })
 }
 
-#[test]
-fn a_half_gives_128_from_either_side() {
-    let disc = Shape::Disc(Disc {
+/// Lines and a disc whose every coverage is a half.
+fn halves() -> [Shape; 3] {
+    let disc = Disc {
         x: 1,
         y: 1,
         radius: 1,
-    });
-    for level_line in [line(true, 0, 1, 2, 1), line(false, 2, 1, 0, 1), disc] {
-        assert_eq!(drawn(2, 0, 255, level_line), (Ok(4), vec![128; 4]));
-        assert_eq!(drawn(2, 255, 0, level_line), (Ok(4), vec![128; 4]));
+    };
+    let (exact, approximate) = (line(true, 0, 1, 2, 1), line(false, 2, 1, 0, 1));
+    [exact, approximate, Shape::Disc(disc)]
+}
+
+#[test]
+fn a_half_gives_128_from_either_side_and_in_squares_180() {
+    for shape in halves() {
+        for (background, level) in [(0, 255), (255, 0)] {
+            assert_eq!(drawn(2, background, level, shape), (Ok(4), vec![128; 4]));
+            let mut call = call_of(2, background, named("square"), level, shape);
+            assert_eq!(library::draw_shape(&mut call), Ok(4));
+            assert_eq!(call.page, [180; 4]);
+        }
     }
 }
 
@@ -402,4 +439,130 @@ fn coordinate_4095_is_drawn_and_4096_refused() {
     };
     assert_eq!(drawn(2, 0, 255, disc(4095)), (Ok(0), vec![0; 4]));
     assert_eq!(drawn(2, 0, 255, disc(4096)), (refused(7), vec![0; 4]));
+}
+
+/// Half way between two neighbouring lights the higher code is written, from either side and
+/// however wide the gap.
+#[test]
+fn a_tie_goes_to_the_higher_code() {
+    for name in FIT {
+        for (low, high) in (0..255).map(|code| (code, code + 1)) {
+            for shape in halves() {
+                for (background, level) in [(low, high), (high, low)] {
+                    let mut call = call_of(2, background, named(name), level, shape);
+                    assert_eq!(library::draw_shape(&mut call), Ok(4));
+                    assert_eq!(call.page, [high; 4], "{}", describe(&call));
+                }
+            }
+        }
+    }
+}
+
+/// Every byte under every level, half covered, and by a line that slowly comes to the next row.
+#[test]
+fn every_byte_and_level_agree() {
+    let mut random = Random::new(3);
+    let shapes = [line(true, 0, 1, 256, 1), line(false, 0, 1, 256, 2)];
+    let mut lights: Vec<Vec<u16>> = FIT.map(named).into();
+    lights.extend((0..5).map(|_| rising_lights(&mut random)));
+    for (lights, shape) in lights
+        .iter()
+        .flat_map(|lights| shapes.map(|shape| (lights, shape)))
+    {
+        for level in 0..=255 {
+            let call = ShapeCall {
+                page: (0..=255u8).cycle().take(3 * 256).collect(),
+                width: 256,
+                height: 3,
+                lights: lights.clone(),
+                clip: Clip::whole(256, 3),
+                level,
+                shape,
+            };
+            let (_, answer) = agreed(&call);
+            assert!(answer.is_ok(), "{}", describe(&call));
+        }
+    }
+}
+
+/// Lights a + b·k leave the bytes that codes leave, and no lights move a count or a refusal.
+#[test]
+fn even_lights_are_as_good_as_codes() {
+    let mut random = Random::new(4);
+    for _ in 0..4_000 {
+        let (_, call) = drawing(&mut random);
+        let with = |name| {
+            let mut call = ShapeCall {
+                lights: named(name),
+                ..call.clone()
+            };
+            (library::draw_shape(&mut call), call.page)
+        };
+        let (answer, page) = with("codes");
+        for name in FIT {
+            assert_eq!(with(name).0, answer, "{}", describe(&call));
+        }
+        for name in ["wide", "offset", "even", "top"] {
+            assert!(with(name).1 == page, "{name}: {}", describe(&call));
+        }
+    }
+}
+
+/// A pixel that is covered whole has the level, whatever the lights.
+#[test]
+fn a_whole_cover_leaves_the_level() {
+    let disc = Shape::Disc(Disc {
+        x: 4,
+        y: 4,
+        radius: 20,
+    });
+    for name in FIT {
+        for (background, level) in [(0, 255), (255, 0), (7, 8), (200, 199)] {
+            let mut call = call_of(8, background, named(name), level, disc);
+            assert_eq!(library::draw_shape(&mut call), Ok(64));
+            assert_eq!(call.page, [level; 64], "{}", describe(&call));
+        }
+    }
+}
+
+/// Those of the tables, and random ones.
+fn unfit_lights() -> Vec<Vec<u16>> {
+    let mut random = Random::new(5);
+    let mut unfit: Vec<Vec<u16>> = UNFIT.map(named).into();
+    unfit.extend((0..400).map(|_| {
+        let (_, mut lights) = fit_lights(&mut random);
+        spoil_lights(&mut random, &mut lights);
+        lights
+    }));
+    unfit
+}
+
+/// 3, 21, 32, then 8: each before all that follow it.
+#[test]
+fn unfit_lights_come_after_the_page_and_before_the_clip() {
+    let no_line = line(true, 4096, 0, 4096, 0);
+    for lights in unfit_lights() {
+        let mut call = call_of(4, 9, lights, 200, line(true, 0, 0, 4, 4));
+        assert_eq!(agreed(&call).1, refused(32));
+        call.shape = no_line;
+        assert_eq!(agreed(&call).1, refused(32));
+        call.clip.x1 = 5;
+        assert_eq!(agreed(&call).1, refused(32));
+        call.page.pop();
+        assert_eq!(agreed(&call).1, refused(21));
+        call.width = 0;
+        assert_eq!(agreed(&call).1, refused(3));
+    }
+}
+
+#[test]
+fn lights_are_tried_when_they_are_made() {
+    for unfit in unfit_lights() {
+        assert_eq!(Lights::new(&unfit), Err(greystroke::Refusal::Lights));
+    }
+    for fit in FIT.map(named) {
+        let lights = Lights::new(&fit).expect("fit lights");
+        assert_eq!(lights.as_slice(), fit);
+    }
+    assert_eq!(Lights::codes().as_slice(), named("codes"));
 }

@@ -1,10 +1,11 @@
-//! Drawing lists of both versions: the library's check and reader against the reference and against
-//! stored rows.
+//! Drawing lists of both versions: the library's check, in fit and unfit lights, and its reader
+//! against the reference and against stored rows.
 
 use checks::calls::answer;
 use checks::cases::rows;
 use checks::classes::Tally;
 use checks::library;
+use checks::lights::{fit_lights, named, spoil_lights, FIT, UNFIT};
 use checks::listings::{damage, list};
 use checks::random::Random;
 use reference::format::{encode_header, encode_record, Header, HEADER_LENGTH, LONGEST_LIST};
@@ -37,11 +38,19 @@ fn refused(number: u64, place: usize) -> Answer {
 }
 
 /// The answer that library and reference agree on.
-fn checked(list: &[u8], page_length: usize) -> Answer {
-    let expected = check(list, page_length).map(|accepted| accepted.header);
-    let found = library::check_list(list, page_length);
-    assert_eq!(found, expected, "page of {page_length}, list {list:02x?}");
+fn checked_in(lights: &[u16], list: &[u8], page_length: usize) -> Answer {
+    let expected = check(list, page_length, lights).map(|accepted| accepted.header);
+    let found = library::check_list(list, page_length, lights);
+    assert_eq!(
+        found, expected,
+        "page of {page_length}, list {list:02x?}, lights {lights:?}"
+    );
     expected
+}
+
+/// The same with lights equal to codes.
+fn checked(list: &[u8], page_length: usize) -> Answer {
+    checked_in(&named("codes"), list, page_length)
 }
 
 /// Reads one record by both, and says how many bytes it has if it is not refused.
@@ -154,7 +163,7 @@ fn stored_rows_agree() {
         let found = answer(&format!("reads {}", row.call));
         assert_eq!(found.trim(), row.answer, "{}", row.call);
     }
-    assert_eq!(rows.len(), 250);
+    assert_eq!(rows.len(), 297);
 }
 
 #[test]
@@ -333,6 +342,39 @@ fn wrong_marks_versions_and_sizes() {
     assert_eq!(checked(&list, usize::MAX), Ok(header(2)));
 }
 
+/// After 12, 5, 1, 2, 3 and 21 and before every record, at place 0.
+#[test]
+fn unfit_lights_come_between_the_page_and_the_records() {
+    for version in VERSIONS {
+        let (list, places) = list_of_each_kind(version);
+        let mut spoilt: Vec<Vec<u8>> = places.iter().map(|&n| list[..n].to_vec()).collect();
+        spoilt.push([&list[..], &[0]].concat());
+        for (_, record) in refused_records(version) {
+            spoilt.push([&list[..HEADER_LENGTH], &record].concat());
+        }
+        for lights in UNFIT.map(named) {
+            assert_eq!(checked_in(&lights, &list, PAGE), refused(32, 0));
+            assert_eq!(checked_in(&lights, &list, PAGE - 1), refused(21, 0));
+            for list in &spoilt {
+                assert_eq!(checked_in(&lights, list, PAGE), refused(32, 0));
+            }
+            for (number, place, byte) in [(1, 0, 0), (2, 3, 9), (3, 5, 0), (3, 8, 9)] {
+                let mut list = list.clone();
+                list[place] = byte;
+                assert_eq!(checked_in(&lights, &list, PAGE), refused(number, 0));
+            }
+            for length in 0..HEADER_LENGTH {
+                assert_eq!(checked_in(&lights, &list[..length], PAGE), refused(5, 0));
+            }
+            let long = [list.clone(), vec![0; LONGEST_LIST]].concat();
+            assert_eq!(checked_in(&lights, &long, PAGE), refused(12, 0));
+        }
+        for lights in FIT.map(named) {
+            assert_eq!(checked_in(&lights, &list, PAGE), Ok(header(version)));
+        }
+    }
+}
+
 #[test]
 fn random_and_damaged_lists_agree() {
     let mut random = Random::new(7);
@@ -345,13 +387,17 @@ fn random_and_damaged_lists_agree() {
             }
         }
         let page_length = random.pick(&[0, 39, 1600, 1 << 20, 1 << 20, 1 << 20]);
-        let class = match checked(&list, page_length) {
+        let (_, mut lights) = fit_lights(&mut random);
+        if random.one_in(16) {
+            spoil_lights(&mut random, &mut lights);
+        }
+        let class = match checked_in(&lights, &list, page_length) {
             Ok(header) => format!("version {} accepted", header.version),
             Err(refusal) => format!("refused {}", refusal.number),
         };
         tally.meet(vec![class]);
     }
-    let numbers = [1, 2, 3, 4, 5, 6, 7, 8, 9, 10, 11, 21, 31];
+    let numbers = [1, 2, 3, 4, 5, 6, 7, 8, 9, 10, 11, 21, 31, 32];
     tally.require(numbers.map(|n| format!("refused {n}")).into(), LEAST);
     let accepted = VERSIONS.map(|version| format!("version {version} accepted"));
     tally.require(accepted.into(), LEAST);

@@ -1,16 +1,18 @@
-//! Whole lists drawn: the library against the reference on random and damaged lists and on stored
-//! ones, the counts of the players, and each byte against the bound on its distance from the exact
-//! blend.
+//! Whole lists drawn: the library against the reference on random and damaged lists in many lights
+//! and on stored ones, the counts of the players, and each byte's light against the bound on its
+//! distance from the exact blend.
 
 use checks::calls::answer;
 use checks::cases::{list_cases, rows};
 use checks::classes::{kind, Tally};
 use checks::library;
+use checks::lights::{fit_lights, named, spoil_lights, FIT, UNFIT};
 use checks::listings::{damage, list};
 use checks::pictures::{listed, page_for, picture, picture_of, small_picture, Listed};
 use checks::random::Random;
 use reference::exact::{bound, byte_after, exact_blend, touches_at, within, BigFraction, Touch};
 use reference::format::{encode_header, encode_record, Header, LONGEST_LIST};
+use reference::lights::{codes, widest_gap};
 use reference::list::{check, draw_list, Drawn};
 use reference::natural::Natural;
 use reference::page::page_length;
@@ -20,6 +22,7 @@ use reference::shape::{Clip, Disc, Line, Record, Setting, Shape, PLAYERS};
 const PICTURES: u32 = 20_000;
 const DAMAGED: u32 = 20_000;
 const SMALL_PICTURES: u32 = 15_000;
+const LIT_PICTURES: u32 = 8_000;
 const SHARED_PICTURES: u32 = 4_000;
 /// Every class of input has to come up at least this often.
 const LEAST: u32 = 20;
@@ -27,25 +30,30 @@ const LEAST: u32 = 20;
 type Answer = Result<Drawn, Refused>;
 
 /// Draws by both on copies of the page, and hands back what they agree on.
-fn drawn(list: &[u8], before: &[u8]) -> (Answer, Vec<u8>) {
+fn drawn_in(lights: &[u16], list: &[u8], before: &[u8]) -> (Answer, Vec<u8>) {
     let (mut expected, mut found) = (before.to_vec(), before.to_vec());
-    let expected_answer = draw_list(list, &mut expected);
-    let found_answer = library::draw_list(list, &mut found);
-    let length = before.len();
-    assert_eq!(
-        found_answer, expected_answer,
-        "page of {length}, list {list:02x?}"
-    );
+    let expected_answer = draw_list(list, &mut expected, lights);
+    let found_answer = library::draw_list(list, &mut found, lights);
+    let told = || {
+        let length = before.len();
+        format!("page of {length}, list {list:02x?}, lights {lights:?}")
+    };
+    assert_eq!(found_answer, expected_answer, "{}", told());
     // The bytes past W·H and those after a refusal are compared too.
-    assert!(found == expected, "page of {length}, list {list:02x?}");
+    assert!(found == expected, "{}", told());
     match found_answer {
         Ok(picture) => {
             let pixels = page_length(picture.width, picture.height);
             assert!(found[pixels..] == before[pixels..]);
         }
-        Err(_) => assert!(found == before, "page of {length}, list {list:02x?}"),
+        Err(_) => assert!(found == before, "{}", told()),
     }
     (found_answer, found)
+}
+
+/// The same with lights equal to codes.
+fn drawn(list: &[u8], before: &[u8]) -> (Answer, Vec<u8>) {
+    drawn_in(&codes(), list, before)
 }
 
 /// The touches of all players.
@@ -62,7 +70,7 @@ fn classes(list: &[u8], before: &[u8], answer: &Answer) -> Vec<String> {
             return vec![format!("refused {}{at}", refusal.number)];
         }
     };
-    let accepted = check(list, before.len()).expect("the list was drawn");
+    let accepted = check(list, before.len(), &codes()).expect("the list was drawn");
     let drawings = accepted.drawings.iter();
     let mut classes: Vec<String> = drawings.map(|d| kind(&d.shape).to_string()).collect();
     let pixels = page_length(picture.width, picture.height);
@@ -92,7 +100,7 @@ fn player_classes(touched: &[u64; PLAYERS]) -> Vec<String> {
     classes
 }
 
-fn named(names: &[&str]) -> Vec<String> {
+fn texts(names: &[&str]) -> Vec<String> {
     names.iter().map(|name| name.to_string()).collect()
 }
 
@@ -103,7 +111,7 @@ fn stored_rows_agree() {
         let found = answer(&format!("lists {}", row.call));
         assert_eq!(found, row.answer, "{}", row.call);
     }
-    assert_eq!(rows.len(), 234);
+    assert_eq!(rows.len(), 325);
 }
 
 #[test]
@@ -122,14 +130,22 @@ fn random_lists_agree() {
     for _ in 0..PICTURES {
         let Listed { header, list, .. } = picture(&mut random);
         let page = page_for(&mut random, &header);
-        let (answer, _) = drawn(&list, &page);
-        tally.meet(classes(&list, &page, &answer));
+        let (name, lights) = fit_lights(&mut random);
+        let (answer, _) = drawn_in(&lights, &list, &page);
+        let mut classes = classes(&list, &page, &answer);
+        if answer.is_ok_and(|drawn| total(&drawn.touched) > 0) {
+            classes.push(format!("touched in lights {name}"));
+        }
+        tally.meet(classes);
     }
-    tally.require(named(&["exact", "approximate", "disc", "ring"]), LEAST);
+    tally.require(texts(&["exact", "approximate", "disc", "ring"]), LEAST);
+    let lights = FIT.into_iter().chain(["random"]);
+    let lights = lights.map(|name| format!("touched in lights {name}"));
+    tally.require(lights.collect(), LEAST);
     let players = (0..PLAYERS).map(|player| format!("player {player}"));
     tally.require(players.collect(), LEAST);
-    tally.require(named(&["2 players", "3 players"]), LEAST);
-    tally.require(named(&["version 1", "version 2"]), LEAST);
+    tally.require(texts(&["2 players", "3 players"]), LEAST);
+    tally.require(texts(&["version 1", "version 2"]), LEAST);
     let others = [
         "refused 21",
         "surplus bytes",
@@ -139,7 +155,7 @@ fn random_lists_agree() {
         "7 shapes",
         "largest side",
     ];
-    tally.require(named(&others), LEAST);
+    tally.require(texts(&others), LEAST);
 }
 
 /// A list that is not refused and a page for it, or a list that may have refusals and some page.
@@ -157,20 +173,24 @@ fn damaged_lists_agree() {
     let mut tally = Tally::default();
     for _ in 0..DAMAGED {
         let (mut list, page) = list_and_page(&mut random);
+        let (_, mut lights) = fit_lights(&mut random);
+        if random.one_in(16) {
+            spoil_lights(&mut random, &mut lights);
+        }
         for _ in 0..random.pick(&[1, 1, 1, 2, 4]) {
             if !list.is_empty() {
                 damage(&mut random, &mut list);
             }
         }
-        let (answer, _) = drawn(&list, &page);
+        let (answer, _) = drawn_in(&lights, &list, &page);
         tally.meet(classes(&list, &page, &answer));
     }
-    let header_refusals = [5, 1, 2, 3, 21].map(|n| format!("refused {n}"));
+    let header_refusals = [5, 1, 2, 3, 21, 32].map(|n| format!("refused {n}"));
     tally.require(header_refusals.into(), LEAST);
     let record_refusals = [4, 5, 6, 7, 8, 9, 10, 11, 31];
     let record_refusals = record_refusals.map(|n| format!("refused {n} further on"));
     tally.require(record_refusals.into(), LEAST);
-    tally.require(named(&["exact", "approximate", "disc", "ring"]), LEAST);
+    tally.require(texts(&["exact", "approximate", "disc", "ring"]), LEAST);
 }
 
 /// The counts and the page of a list that is not refused.
@@ -204,7 +224,7 @@ fn a_list_of_version_1_is_drawn_as_the_same_records_of_version_2() {
         assert_eq!(total(&touched), touched[0], "{:02x?}", older.list);
         tally.meet(player_classes(&touched));
     }
-    tally.require(named(&["0 players", "1 players"]), LEAST);
+    tally.require(texts(&["0 players", "1 players"]), LEAST);
 }
 
 /// The same list without its players has the same page, and all touches on player 0.
@@ -226,7 +246,7 @@ fn players_move_no_byte_and_share_the_touches() {
         assert_eq!(of_one, on_player_0, "{:02x?}", shared.list);
         tally.meet(player_classes(&touched));
     }
-    tally.require(named(&["0 players", "1 players", "3 players"]), LEAST);
+    tally.require(texts(&["0 players", "1 players", "3 players"]), LEAST);
 }
 
 /// The records without the shapes of all players but one.
@@ -255,7 +275,8 @@ fn each_count_is_that_of_the_players_own_shapes() {
         for own in 0..PLAYERS {
             let records = own_records(&shared.records, own as u8);
             let mut page = page.clone();
-            let alone = library::draw_list(&listed(shared.header, records).list, &mut page);
+            let list = listed(shared.header, records).list;
+            let alone = library::draw_list(&list, &mut page, &codes());
             let mut expected = [0; PLAYERS];
             expected[own] = touched[own];
             assert_eq!(alone.map(|drawn| drawn.touched), Ok(expected));
@@ -264,7 +285,7 @@ fn each_count_is_that_of_the_players_own_shapes() {
     }
     let players = (0..PLAYERS).map(|player| format!("player {player}"));
     tally.require(players.collect(), LEAST);
-    tally.require(named(&["2 players", "3 players"]), LEAST);
+    tally.require(texts(&["2 players", "3 players"]), LEAST);
 }
 
 /// Neither a clip nor a level sets the player back, nor a player one of them.
@@ -340,90 +361,170 @@ fn tenths(whole: &BigFraction, count: u64) -> BigFraction {
     }
 }
 
-/// How a byte came about, and whether it lies beyond nine tenths of its bound.
-fn byte_classes(byte: u8, background: u8, touches: &[Touch]) -> Vec<String> {
+/// How a byte came about in lights of this name, and whether its light lies beyond nine tenths of
+/// its bound.
+fn byte_classes(name: &str, touches: &[Touch], near: bool) -> Vec<String> {
     let approximate = touches.iter().filter(|touch| touch.apart.n > 0).count();
     let count = touches.len().min(6);
-    let class = format!("{count} touches, {} approximate", approximate.min(2));
-    let exact = exact_blend(background, touches);
-    let near = within(byte, &exact, &tenths(&bound(touches), 9));
-    let mut classes = vec![class.clone()];
-    if !near {
-        classes.push(format!("{class}: beyond nine tenths"));
-    }
-    classes
+    let class = format!(
+        "{name}: {count} touches, {} approximate",
+        approximate.min(2)
+    );
+    let beyond = (!near).then(|| format!("{class}, beyond nine tenths"));
+    [class].into_iter().chain(beyond).collect()
 }
 
-/// Each byte lies within half a level a touch, and 255·s/(4·l) a touch by an approximate line, of
-/// the blend by exact coverage that is never rounded.
+/// The light of each byte lies within half the widest gap a touch, and the last light less the
+/// first times s/(4·l) a touch by an approximate line, of the blend by exact coverage that is never
+/// rounded.
+fn hold_to_bound(name: &str, lights: &[u16], listed: &Listed, tally: &mut Tally) {
+    let Listed { header, list, .. } = listed;
+    let (width, background) = (usize::from(header.width), header.background);
+    let mut page = vec![0xAA; page_length(header.width, header.height)];
+    let accepted = check(list, page.len(), lights).expect("a lawful list");
+    let picture = library::draw_list(list, &mut page, lights).expect("a lawful list");
+    let mut touched = [0; PLAYERS];
+    for (k, &byte) in page.iter().enumerate() {
+        let touches = touches_at(&accepted, (k % width) as u16, (k / width) as u16);
+        let exact = exact_blend(lights, background, &touches);
+        let bound = bound(lights, &touches);
+        let fits = within(lights, byte, &exact, &bound);
+        assert!(fits, "byte {k}: {list:02x?}, lights {lights:?}");
+        assert_eq!(byte, byte_after(lights, background, &touches));
+        let near = within(lights, byte, &exact, &tenths(&bound, 9));
+        tally.meet(byte_classes(name, &touches, near));
+        for touch in touches {
+            touched[usize::from(touch.player)] += 1;
+        }
+    }
+    assert_eq!(picture.touched, touched);
+}
+
 #[test]
 fn every_byte_is_within_the_bound() {
     let mut random = Random::new(33);
     let mut tally = Tally::default();
     for _ in 0..SMALL_PICTURES {
-        let Listed { header, list, .. } = small_picture(&mut random);
-        let width = usize::from(header.width);
-        let mut page = vec![0xAA; page_length(header.width, header.height)];
-        let accepted = check(&list, page.len()).expect("a lawful list");
-        let picture = library::draw_list(&list, &mut page).expect("a lawful list");
-        let mut touched = [0; PLAYERS];
-        for (k, &byte) in page.iter().enumerate() {
-            let touches = touches_at(&accepted, (k % width) as u16, (k / width) as u16);
-            let exact = exact_blend(header.background, &touches);
-            assert!(
-                within(byte, &exact, &bound(&touches)),
-                "byte {k}: {list:02x?}"
-            );
-            assert_eq!(byte, byte_after(header.background, &touches));
-            tally.meet(byte_classes(byte, header.background, &touches));
-            for touch in touches {
-                touched[usize::from(touch.player)] += 1;
-            }
-        }
-        assert_eq!(picture.touched, touched);
+        let listed = small_picture(&mut random);
+        hold_to_bound("codes", &codes(), &listed, &mut tally);
     }
     let classes = [
         "0 touches, 0 approximate",
         "6 touches, 2 approximate",
-        "1 touches, 0 approximate: beyond nine tenths",
-        "1 touches, 1 approximate: beyond nine tenths",
-        "2 touches, 0 approximate: beyond nine tenths",
-        "2 touches, 1 approximate: beyond nine tenths",
+        "1 touches, 0 approximate, beyond nine tenths",
+        "1 touches, 1 approximate, beyond nine tenths",
+        "2 touches, 0 approximate, beyond nine tenths",
+        "2 touches, 1 approximate, beyond nine tenths",
         "2 touches, 2 approximate",
     ];
-    tally.require(named(&classes), LEAST);
+    tally.require(classes.map(|class| format!("codes: {class}")).into(), LEAST);
+}
+
+#[test]
+fn every_byte_is_within_the_bound_in_any_lights() {
+    let mut random = Random::new(38);
+    let mut tally = Tally::default();
+    for _ in 0..LIT_PICTURES {
+        let listed = small_picture(&mut random);
+        let (name, lights) = fit_lights(&mut random);
+        hold_to_bound(name, &lights, &listed, &mut tally);
+    }
+    for name in FIT.into_iter().chain(["random"]) {
+        let classes = ["1 touches, 0 approximate", "2 touches, 1 approximate"];
+        let classes = classes.map(|class| format!("{name}: {class}"));
+        tally.require(classes.into(), LEAST);
+    }
+    // Few blends fall into the widest gap where most gaps are narrower.
+    for name in ["wide", "offset", "even", "top", "last", "random"] {
+        let class = format!("{name}: 1 touches, 0 approximate, beyond nine tenths");
+        tally.require(vec![class], LEAST);
+    }
+}
+
+/// One pixel of this background, and a line at this level from its first corner to another.
+fn one_pixel(background: u8, level: u8, exact: bool, (x1, y1): (i16, i16)) -> Listed {
+    let header = Header {
+        version: 2,
+        width: 1,
+        height: 1,
+        background,
+    };
+    let (x0, y0) = (0, 0);
+    let line = Shape::Line(Line {
+        exact,
+        x0,
+        y0,
+        x1,
+        y1,
+    });
+    let level = Record::Setting(Setting::Level(level));
+    listed(header, vec![level, Record::Shape(line)])
+}
+
+/// The byte of such a pixel, the exact blend and the bound.
+fn blended(lights: &[u16], listed: &Listed) -> (u8, BigFraction, BigFraction) {
+    let (_, page) = drawn_in(lights, &listed.list, &[9]);
+    let accepted = check(&listed.list, 1, lights).expect("a lawful list");
+    let touches = touches_at(&accepted, 0, 0);
+    let exact = exact_blend(lights, listed.header.background, &touches);
+    (page[0], exact, bound(lights, &touches))
+}
+
+fn fraction(numerator: u64, denominator: u64) -> BigFraction {
+    BigFraction {
+        numerator: Natural::from(numerator),
+        denominator: Natural::from(denominator),
+    }
 }
 
 /// From white to black, the rounding and the approximation of a diagonal go the same way.
 #[test]
 fn a_diagonal_reaches_the_bound() {
-    let header = Header {
-        version: 2,
-        width: 1,
-        height: 1,
-        background: 255,
-    };
-    let line = Line {
-        exact: false,
-        x0: 0,
-        y0: 0,
-        x1: 1,
-        y1: 1,
-    };
-    let mut list = encode_header(&header);
-    list.extend([2, 0]);
-    list.extend(encode_record(&Record::Shape(Shape::Line(line))));
-    list.push(0);
-    let (_, page) = drawn(&list, &[9]);
-    assert_eq!(page, [128]);
-    let accepted = check(&list, 1).expect("a lawful list");
-    let touches = touches_at(&accepted, 0, 0);
-    let exact = exact_blend(255, &touches);
-    assert!(within(128, &exact, &bound(&touches)));
-    assert!(!within(129, &exact, &bound(&touches)));
-    let without_the_half = BigFraction {
-        numerator: Natural::from(255),
-        denominator: Natural::from(4),
-    };
-    assert!(!within(128, &exact, &without_the_half));
+    let lights = codes();
+    let (byte, exact, bound) = blended(&lights, &one_pixel(255, 0, false, (1, 1)));
+    assert_eq!(byte, 128);
+    assert!(within(&lights, 128, &exact, &bound));
+    assert!(!within(&lights, 129, &exact, &bound));
+    let without_the_half = fraction(255, 4);
+    assert!(!within(&lights, 128, &exact, &without_the_half));
+}
+
+/// Half of the code past the widest gap on the code before it is half that gap away from either.
+#[test]
+fn a_tie_in_the_widest_gap_reaches_the_bound() {
+    let gaps = [("gap", 199), ("first", 0), ("last", 254), ("wide", 9)];
+    for (name, before) in gaps {
+        let (lights, after) = (named(name), before + 1);
+        let (byte, exact, bound) = blended(&lights, &one_pixel(before, after, true, (1, 0)));
+        assert_eq!(byte, after, "{name}");
+        assert!(within(&lights, byte, &exact, &bound), "{name}");
+        let gap = widest_gap(&lights);
+        assert!(within(&lights, byte, &exact, &fraction(gap, 2)), "{name}");
+        assert!(
+            !within(&lights, byte, &exact, &fraction(gap - 1, 2)),
+            "{name}"
+        );
+    }
+}
+
+/// After 12, 5, 1, 2, 3 and 21 and before every record; the page is as it was.
+#[test]
+fn unfit_lights_are_refused_before_the_records() {
+    let mut random = Random::new(37);
+    for name in UNFIT {
+        let lights = named(name);
+        for _ in 0..200 {
+            let Listed { header, list, .. } = picture(&mut random);
+            let page = large_page_for(&mut random, &header);
+            let refused = |number| Err(Refused { number, place: 0 });
+            assert_eq!(drawn_in(&lights, &list, &page).0, refused(32));
+            let no_end = &list[..list.len() - 1];
+            assert_eq!(drawn_in(&lights, no_end, &page).0, refused(32));
+            let unknown = [&list[..10], &[9], &list[10..]].concat();
+            assert_eq!(drawn_in(&lights, &unknown, &page).0, refused(32));
+            let pixels = page_length(header.width, header.height);
+            assert_eq!(drawn_in(&lights, &list, &page[..pixels - 1]).0, refused(21));
+            assert_eq!(drawn_in(&lights, &list[..9], &page).0, refused(5));
+        }
+    }
 }

@@ -140,5 +140,5 @@ fn stored_rows_agree() {
         let found = answer(&format!("queries {}", row.call));
         assert_eq!(found, row.answer, "{}", row.call);
     }
-    assert_eq!(rows.len(), 334);
+    assert_eq!(rows.len(), 376);
 }

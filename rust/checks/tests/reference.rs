@@ -1,10 +1,12 @@
 //! The reference against every stored table and list.
 
 use checks::cases::{list_cases, rows, TABLES};
+use checks::lights::named;
 use checks::reference_page::draw_shape;
 use checks::reference_writer::write;
 use checks::rows as answers;
 use reference::exact::{bound, byte_after, exact_blend, touches_at, within};
+use reference::lights::codes;
 use reference::list::{check, draw_list, Accepted};
 use reference::shape::PLAYERS;
 use reference::{column, coverage, page, print, reader};
@@ -16,8 +18,8 @@ fn answer(table: &str, call: &str) -> String {
         "draws" => answers::draws(call, draw_shape),
         "writes" => answers::writes(call, write),
         "reads" => answers::reads(call, reader::read_record),
-        "lists" => answers::lists(call, |list, page| {
-            draw_list(list, page).map(|drawn| drawn.touched)
+        "lists" => answers::lists(call, |list, page, lights| {
+            draw_list(list, page, lights).map(|drawn| drawn.touched)
         }),
         _ => panic!("no table {table}"),
     }
@@ -33,7 +35,7 @@ fn every_row_of_every_table() {
             count += 1;
         }
     }
-    assert_eq!(count, 334 + 90 + 267 + 245 + 250 + 234);
+    assert_eq!(count, 376 + 134 + 392 + 274 + 297 + 325);
 }
 
 #[test]
@@ -45,18 +47,19 @@ fn every_printed_list() {
     assert_eq!(cases.len(), 54);
 }
 
-/// Each byte is the fold over its touches, and lies within the bound of the exact blend.
-fn hold_to_exact(accepted: &Accepted, list: &[u8]) {
+/// Each byte is the fold over its touches, and its light lies within the bound of the exact blend.
+fn hold_to_exact(accepted: &Accepted, list: &[u8], lights: &[u16]) {
     let header = accepted.header;
     let mut page = vec![0; page::page_length(header.width, header.height)];
-    let drawn = draw_list(list, &mut page).expect("the list was accepted");
+    let drawn = draw_list(list, &mut page, lights).expect("the list was accepted");
     let mut touched = [0; PLAYERS];
     for (k, &byte) in page.iter().enumerate() {
         let width = usize::from(header.width);
         let touches = touches_at(accepted, (k % width) as u16, (k / width) as u16);
-        let exact = exact_blend(header.background, &touches);
-        assert_eq!(byte, byte_after(header.background, &touches));
-        assert!(within(byte, &exact, &bound(&touches)), "byte {k}");
+        let exact = exact_blend(lights, header.background, &touches);
+        assert_eq!(byte, byte_after(lights, header.background, &touches));
+        let bound = bound(lights, &touches);
+        assert!(within(lights, byte, &exact, &bound), "byte {k}");
         for touch in touches {
             touched[usize::from(touch.player)] += 1;
         }
@@ -68,8 +71,10 @@ fn hold_to_exact(accepted: &Accepted, list: &[u8]) {
 fn accepted_lists_keep_the_bound() {
     let mut accepted_lists = 0;
     for case in list_cases() {
-        if let Ok(accepted) = check(&case.list, print::PRINT_PAGE) {
-            hold_to_exact(&accepted, &case.list);
+        if let Ok(accepted) = check(&case.list, print::PRINT_PAGE, &codes()) {
+            for lights in [codes(), named("gamma"), named("gap")] {
+                hold_to_exact(&accepted, &case.list, &lights);
+            }
             accepted_lists += 1;
         }
     }

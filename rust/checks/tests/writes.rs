@@ -11,6 +11,7 @@ use checks::random::Random;
 use checks::reference_writer::write;
 use checks::rows::Writing;
 use reference::format::{Header, HEADER_LENGTH, LONGEST_LIST};
+use reference::lights::codes;
 use reference::list::check;
 use reference::shape::{Basis, Clip, Record, Setting};
 
@@ -86,7 +87,7 @@ fn stored_rows_agree() {
         let found = answer(&format!("writes {}", row.call));
         assert_eq!(found.trim(), row.answer, "{}", row.call);
     }
-    assert_eq!(rows.len(), 245);
+    assert_eq!(rows.len(), 274);
 }
 
 #[test]
@@ -216,7 +217,7 @@ fn accepted_lists_written_again_are_their_own_bytes() {
     let mut tally = Tally::default();
     for _ in 0..LISTS {
         let list = list(&mut random);
-        if let Ok(header) = library::check_list(&list, LARGEST_PAGE) {
+        if let Ok(header) = library::check_list(&list, LARGEST_PAGE, &codes()) {
             assert_eq!(written_again(&list, header), list);
             tally.meet(vec![format!("version {}", header.version)]);
         }
@@ -245,8 +246,11 @@ fn written_lists_are_accepted() {
         }
         if written(&mut state, &Writable::Record(Record::End)).is_ok() {
             let list = &state.list[..state.place];
-            assert_eq!(library::check_list(list, LARGEST_PAGE), Ok(header));
-            let told = check(list, LARGEST_PAGE).map(|told| told.header);
+            assert_eq!(
+                library::check_list(list, LARGEST_PAGE, &codes()),
+                Ok(header)
+            );
+            let told = check(list, LARGEST_PAGE, &codes()).map(|told| told.header);
             assert_eq!(told, Ok(header));
             tally.meet(vec![format!("version {}", header.version)]);
         }

@@ -153,40 +153,46 @@ extern "C" {
     ) -> ColumnAnswer;
 }
 
-// A page is lent as its first byte and its length. Safe to call if these are a slice that nothing
-// else reads or writes meanwhile; any size, clip and shape may go with it.
+// A page, a list and lights are each lent as their first element and their length. Safe to call if
+// the page is a slice that nothing else reads or writes meanwhile, and lights and list are slices
+// that nothing writes meanwhile; the page may overlap neither. Any lights, size, clip and shape may
+// go with it.
 extern "C" {
     pub fn greystroke_draw_shape(
         page: *mut u8,
         page_length: usize,
         w: u32,
         h: u32,
+        lights: *const u16,
+        lights_length: usize,
         clip: GivenClip,
         level: u8,
         shape: GivenShape,
     ) -> DrawAnswer;
+    pub fn greystroke_draw_list(
+        page: *mut u8,
+        page_length: usize,
+        lights: *const u16,
+        lights_length: usize,
+        list: *const u8,
+        list_length: usize,
+    ) -> ListAnswer;
 }
 
-// A list is lent as its first byte and its length. Safe to call if these are a slice that nothing
-// writes meanwhile.
+// Safe to call if lights and list are slices that nothing writes meanwhile.
 extern "C" {
     pub fn greystroke_read_record(
         list: *const u8,
         list_length: usize,
         basis: GivenBasis,
     ) -> ReadAnswer;
-    pub fn greystroke_check_list(list: *const u8, list_length: usize, page: usize) -> CheckAnswer;
-}
-
-// Safe to call if the page is a slice that nothing else reads or writes meanwhile and the list one
-// that nothing writes meanwhile; the two may not overlap.
-extern "C" {
-    pub fn greystroke_draw_list(
-        page: *mut u8,
-        page_length: usize,
+    pub fn greystroke_check_list(
         list: *const u8,
         list_length: usize,
-    ) -> ListAnswer;
+        page_length: usize,
+        lights: *const u16,
+        lights_length: usize,
+    ) -> CheckAnswer;
 }
 
 // Safe to call if the list is a slice that nothing else reads or writes meanwhile; any place and

@@ -1,8 +1,6 @@
 //! One shape on a lent page.
 
-use crate::boundary::greystroke_draw_shape;
-use crate::list::accepted_call;
-use crate::{Refusal, Shape};
+use crate::{raw, Lights, Refusal, Shape};
 
 /// The sides of a page, 1 to 1024 each. Pixel (x, y) is byte y · width + x.
 #[derive(Clone, Copy, Debug, PartialEq, Eq)]
@@ -32,8 +30,8 @@ impl Clip {
     }
 }
 
-/// Blends a shape at a level into the pixels of a page that the clip keeps, and counts the pixels
-/// that the shape touches. Bytes of the page past its last pixel are left alone.
+/// Blends a shape at a level, in light, into the pixels of a page that the clip keeps, and counts
+/// the pixels that the shape touches. Bytes of the page past its last pixel are left alone.
 ///
 /// # Errors
 ///
@@ -42,36 +40,35 @@ impl Clip {
 /// [`Refusal::RingWidth`]. The page is then as it was.
 ///
 /// ```
-/// use greystroke::{draw_shape, Clip, Line, Refusal, Shape, Size};
+/// use greystroke::{draw_shape, Clip, Lights, Line, Refusal, Shape, Size};
 ///
 /// let size = Size { width: 4, height: 3 };
 /// let line = Shape::Line(Line { exact: true, x0: 1, y0: 1, x1: 3, y1: 2 });
+/// let draw = |page: &mut [u8], lights, clip| draw_shape(page, size, lights, clip, 255, line);
+///
+/// let (whole, codes) = (Clip::whole(size), Lights::codes());
 /// let mut page = [0; 12];
-/// assert_eq!(draw_shape(&mut page, size, Clip::whole(size), 255, line), Ok(4));
+/// assert_eq!(draw(&mut page, &codes, whole), Ok(4));
 /// assert_eq!(page, [0, 64, 0, 0, 0, 191, 191, 0, 0, 0, 64, 0]);
 ///
+/// // A screen whose light grows as the square needs higher codes for a share of its white.
+/// let squares: Vec<u16> = (0..256).map(|k| k * k + k).collect();
+/// let squares = Lights::new(&squares)?;
+/// let mut page = [0; 12];
+/// assert_eq!(draw(&mut page, &squares, whole), Ok(4));
+/// assert_eq!(page, [0, 127, 0, 0, 0, 221, 221, 0, 0, 0, 127, 0]);
+///
 /// let off_the_page = Clip { x0: 0, y0: 0, x1: 5, y1: 3 };
-/// assert_eq!(draw_shape(&mut page, size, off_the_page, 255, line), Err(Refusal::Clip));
+/// assert_eq!(draw(&mut page, &codes, off_the_page), Err(Refusal::Clip));
+/// # Ok::<(), Refusal>(())
 /// ```
 pub fn draw_shape(
     page: &mut [u8],
     size: Size,
+    lights: &Lights,
     clip: Clip,
     level: u8,
     shape: Shape,
 ) -> Result<u64, Refusal> {
-    // SAFETY: the page is a slice of its own, and all else are plain numbers by value.
-    let answer = unsafe {
-        greystroke_draw_shape(
-            page.as_mut_ptr(),
-            page.len(),
-            size.width.into(),
-            size.height.into(),
-            clip.into(),
-            level,
-            shape.into(),
-        )
-    };
-    accepted_call(answer.refusal, answer.place)?;
-    Ok(answer.touched)
+    raw::draw_shape(page, size, lights.as_slice(), clip, level, shape)
 }

@@ -1,11 +1,11 @@
 //! Drawing lists: reading a record, checking a whole list, writing one.
 
 use crate::boundary::{
-    greystroke_check_list, greystroke_read_record, greystroke_write_clip, greystroke_write_end,
-    greystroke_write_header, greystroke_write_level, greystroke_write_player,
-    greystroke_write_shape, GivenBasis, ReadAnswer, WriteAnswer,
+    greystroke_read_record, greystroke_write_clip, greystroke_write_end, greystroke_write_header,
+    greystroke_write_level, greystroke_write_player, greystroke_write_shape, GivenBasis,
+    ReadAnswer, WriteAnswer,
 };
-use crate::{Clip, Disc, Line, Refusal, Ring, Shape, Size};
+use crate::{raw, Clip, Disc, Lights, Line, Refusal, Ring, Shape, Size};
 use std::error::Error;
 use std::fmt::{self, Debug, Display, Formatter};
 
@@ -100,7 +100,7 @@ pub fn read_record(bytes: &[u8], basis: Basis) -> Result<(Record, &[u8]), Refusa
     Ok((record_of(&answer), &bytes[answer.size..]))
 }
 
-/// Tries a whole list for a page of so many bytes.
+/// Tries a whole list for a page of so many bytes and these lights.
 ///
 /// # Errors
 ///
@@ -108,32 +108,26 @@ pub fn read_record(bytes: &[u8], basis: Basis) -> Result<(Record, &[u8]), Refusa
 /// record, the list's length where a record is missing, or the first surplus byte.
 ///
 /// ```
-/// use greystroke::{check_list, Header, ListRefusal, Refusal, Size};
+/// use greystroke::{check_list, Header, Lights, ListRefusal, Refusal, Size};
 ///
+/// let lights = Lights::codes();
 /// let list = *b"INK\x02\x00\x04\x00\x03\x00\x09\x00";
 /// let size = Size { width: 4, height: 3 };
-/// assert_eq!(check_list(&list, 12), Ok(Header { version: 2, size, background: 9 }));
+/// assert_eq!(check_list(&list, 12, &lights), Ok(Header { version: 2, size, background: 9 }));
 ///
 /// let missing_end = ListRefusal { refusal: Refusal::CutShort, place: 10 };
-/// assert_eq!(check_list(&list[..10], 12), Err(missing_end));
+/// assert_eq!(check_list(&list[..10], 12, &lights), Err(missing_end));
 /// ```
-pub fn check_list(list: &[u8], page_length: usize) -> Result<Header, ListRefusal> {
-    // SAFETY: the list is a slice, and the page's length is a plain number by value.
-    let answer = unsafe { greystroke_check_list(list.as_ptr(), list.len(), page_length) };
-    accepted_list(answer.refusal, answer.place)?;
-    let Basis { version, size } = basis_of(answer.basis);
-    Ok(Header {
-        version,
-        size,
-        background: answer.background,
-    })
+pub fn check_list(list: &[u8], page_length: usize, lights: &Lights) -> Result<Header, ListRefusal> {
+    raw::check_list(list, page_length, lights.as_slice())
 }
 
 /// A list being written into lent bytes, the place reached, and what records are written against.
 /// Any place and any basis may be set: what does not fit them is refused.
 ///
 /// ```
-/// use greystroke::{check_list, Header, Record, Refusal, Setting, Size, Writer, LATEST_VERSION};
+/// use greystroke::{check_list, Header, Lights, Record, Refusal, Setting, Size, Writer};
+/// use greystroke::LATEST_VERSION;
 ///
 /// let size = Size { width: 4, height: 3 };
 /// let header = Header { version: LATEST_VERSION, size, background: 9 };
@@ -145,7 +139,7 @@ pub fn check_list(list: &[u8], page_length: usize) -> Result<Header, ListRefusal
 /// assert_eq!(writer.write_record(Record::End), Ok(()));
 /// assert_eq!(writer.write_record(Record::End), Err(Refusal::NoRoom));
 /// assert_eq!(writer.place, 13);
-/// assert_eq!(check_list(&list, 12), Ok(header));
+/// assert_eq!(check_list(&list, 12, &Lights::codes()), Ok(header));
 /// ```
 #[derive(Debug)]
 pub struct Writer<'a> {
@@ -244,7 +238,7 @@ pub(crate) fn accepted_call(number: u32, place: usize) -> Result<(), Refusal> {
     accepted_list(number, place).map_err(|refused| refused.refusal)
 }
 
-fn basis_of(basis: GivenBasis) -> Basis {
+pub(crate) fn basis_of(basis: GivenBasis) -> Basis {
     Basis {
         version: narrow(basis.version),
         size: size_of(basis.w, basis.h),

@@ -1,8 +1,6 @@
 //! A whole list on a lent page.
 
-use crate::boundary::greystroke_draw_list;
-use crate::list::{accepted_list, size_of};
-use crate::{ListRefusal, Size};
+use crate::{raw, Lights, ListRefusal, Size};
 
 /// Players are 0 to 7.
 pub const PLAYERS: usize = 8;
@@ -15,8 +13,8 @@ pub struct Picture {
     pub touched: [u64; PLAYERS],
 }
 
-/// Fills a page with the list's background and draws every shape of the list in order. Bytes of
-/// the page past its last pixel are left alone.
+/// Fills a page with the list's background and draws every shape of the list in order, in light.
+/// Bytes of the page past its last pixel are left alone.
 ///
 /// # Errors
 ///
@@ -24,26 +22,20 @@ pub struct Picture {
 /// was.
 ///
 /// ```
-/// use greystroke::{draw_list, ListRefusal, Picture, Refusal, Size};
+/// use greystroke::{draw_list, Lights, ListRefusal, Picture, Refusal, Size};
 ///
 /// // Three columns and two rows of level 9, and a disc of player 2: radius 1, corner (1, 1).
 /// let list = *b"INK\x02\x00\x03\x00\x02\x00\x09\x07\x02\x05\x01\x00\x01\x00\x01\x00";
+/// let lights = Lights::codes();
 /// let mut page = [7; 8];
 /// let size = Size { width: 3, height: 2 };
 /// let touched = [0, 0, 4, 0, 0, 0, 0, 0];
-/// assert_eq!(draw_list(&mut page, &list), Ok(Picture { size, touched }));
+/// assert_eq!(draw_list(&mut page, &lights, &list), Ok(Picture { size, touched }));
 /// assert_eq!(page, [132, 132, 9, 132, 132, 9, 7, 7]);
 ///
 /// let too_short = ListRefusal { refusal: Refusal::PageTooShort, place: 0 };
-/// assert_eq!(draw_list(&mut page[..5], &list), Err(too_short));
+/// assert_eq!(draw_list(&mut page[..5], &lights, &list), Err(too_short));
 /// ```
-pub fn draw_list(page: &mut [u8], list: &[u8]) -> Result<Picture, ListRefusal> {
-    // SAFETY: page and list are slices, and the page, being borrowed alone, is apart from the list.
-    let answer =
-        unsafe { greystroke_draw_list(page.as_mut_ptr(), page.len(), list.as_ptr(), list.len()) };
-    accepted_list(answer.refusal, answer.place)?;
-    Ok(Picture {
-        size: size_of(answer.w, answer.h),
-        touched: answer.touched,
-    })
+pub fn draw_list(page: &mut [u8], lights: &Lights, list: &[u8]) -> Result<Picture, ListRefusal> {
+    raw::draw_list(page, lights.as_slice(), list)
 }

@@ -37,10 +37,12 @@ pub enum Refusal {
     NoRoom = 22,
     /// A player is above 7.
     Player = 31,
+    /// Lights are not 256 in number, or not strictly rising.
+    Lights = 32,
 }
 
 impl Refusal {
-    const ALL: [Refusal; 15] = [
+    const ALL: [Refusal; 16] = [
         Refusal::WrongMark,
         Refusal::WrongVersion,
         Refusal::PageSize,
@@ -56,6 +58,7 @@ impl Refusal {
         Refusal::PageTooShort,
         Refusal::NoRoom,
         Refusal::Player,
+        Refusal::Lights,
     ];
 
     pub fn number(self) -> u64 {
@@ -80,6 +83,7 @@ impl Refusal {
             Refusal::PageTooShort => "the page has fewer bytes than pixels",
             Refusal::NoRoom => "too few bytes are left in the list, which has at most 65,536",
             Refusal::Player => "the player is above 7",
+            Refusal::Lights => "the lights are not 256 in number, or not strictly rising",
         }
     }
 

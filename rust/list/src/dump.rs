@@ -1,7 +1,7 @@
 //! A list into a text.
 
 use crate::words::{header_words, record_words};
-use greystroke::{check_list, read_record, Header, ListRefusal};
+use greystroke::{check_list, read_record, Header, Lights, ListRefusal};
 
 /// No page has more bytes, so that no list is refused for want of a page.
 const LARGEST_PAGE: usize = 1024 * 1024;
@@ -20,7 +20,7 @@ pub struct Dumped {
 /// The text of a list, each line with its place; a refused list up to the place of its refusal,
 /// and then the refusal.
 pub fn dump(list: &[u8]) -> Dumped {
-    let refusal = check_list(list, LARGEST_PAGE).err();
+    let refusal = checked(list).err();
     let stop = refusal.map_or(list.len(), |refusal| refusal.place);
     let mut text = String::new();
     if stop >= HEADER_LENGTH {
@@ -50,7 +50,12 @@ fn dump_until(stop: usize, list: &[u8], text: &mut String) {
 fn header_of(list: &[u8]) -> Header {
     let mut header_and_end = list[..HEADER_LENGTH].to_vec();
     header_and_end.push(0);
-    check_list(&header_and_end, LARGEST_PAGE).expect("the header is not refused")
+    checked(&header_and_end).expect("the header is not refused")
+}
+
+/// What the library says of a list, whatever page and lights it is drawn with.
+fn checked(list: &[u8]) -> Result<Header, ListRefusal> {
+    check_list(list, LARGEST_PAGE, &Lights::codes())
 }
 
 fn line(words: &str, place: usize) -> String {

@@ -2,7 +2,7 @@
 
 use checks::listings::{damage, lawful_record, list as any_list};
 use checks::random::Random;
-use greystroke::{check_list, Refusal};
+use greystroke::{check_list, Lights, Refusal};
 use list::{dump, make, LONGEST_LIST};
 use reference::format::{encode_header, encode_record, Header};
 use std::fs;
@@ -72,7 +72,7 @@ fn places(text: &str) -> Vec<usize> {
 /// A dump tells the refusal that the check of the list tells, and stops at its place.
 fn assert_told(list: &[u8]) -> Option<Refusal> {
     let dumped = dump(list);
-    let refused = check_list(list, LARGEST_PAGE).err();
+    let refused = check_list(list, LARGEST_PAGE, &Lights::codes()).err();
     assert_eq!(dumped.refusal, refused, "{list:02x?}");
     let last = dumped.text.lines().last().unwrap_or_default();
     let Some(refused) = refused else {

@@ -7,6 +7,7 @@ pub mod column;
 pub mod coverage;
 pub mod exact;
 pub mod format;
+pub mod lights;
 pub mod list;
 pub mod natural;
 pub mod page;

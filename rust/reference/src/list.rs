@@ -1,6 +1,7 @@
 //! A whole list: checking it, and drawing it on a lent page.
 
 use crate::format::{decode_header, Header, HEADER_LENGTH, LONGEST_LIST};
+use crate::lights::lights_refusal;
 use crate::page::{page_length, paint};
 use crate::reader::lawful_record;
 use crate::refusal::{Refusal, Refused};
@@ -30,9 +31,12 @@ pub struct Drawn {
     pub touched: [u64; PLAYERS],
 }
 
-/// Tries the whole list, as it would be drawn on a page of `page_bytes` bytes.
-pub fn check(list: &[u8], page_bytes: usize) -> Result<Accepted, Refused> {
+/// Tries the whole list, as it would be drawn on a page of `page_bytes` bytes in these lights.
+pub fn check(list: &[u8], page_bytes: usize, lights: &[u16]) -> Result<Accepted, Refused> {
     let header = check_header(list, page_bytes).map_err(|refusal| refusal.at(0))?;
+    if let Some(refusal) = lights_refusal(lights) {
+        return Err(refusal.at(0));
+    }
     let records = check_records(list, &header)?;
     Ok(Accepted {
         header,
@@ -97,8 +101,8 @@ fn drawings(header: &Header, records: &[Record]) -> Vec<Drawing> {
 }
 
 /// Checks the list, fills the page with the background and draws every shape in order.
-pub fn draw_list(list: &[u8], page: &mut [u8]) -> Result<Drawn, Refused> {
-    let accepted = check(list, page.len())?;
+pub fn draw_list(list: &[u8], page: &mut [u8], lights: &[u16]) -> Result<Drawn, Refused> {
+    let accepted = check(list, page.len(), lights)?;
     let Header {
         width,
         height,
@@ -108,8 +112,13 @@ pub fn draw_list(list: &[u8], page: &mut [u8]) -> Result<Drawn, Refused> {
     page[..page_length(width, height)].fill(background);
     let mut touched = [0; PLAYERS];
     for drawing in &accepted.drawings {
-        let count = paint(page, width, &drawing.clip, drawing.level, &drawing.shape);
-        touched[usize::from(drawing.player)] += count;
+        let Drawing {
+            shape,
+            clip,
+            level,
+            player,
+        } = drawing;
+        touched[usize::from(*player)] += paint(page, width, lights, clip, *level, shape);
     }
     Ok(Drawn {
         width,
@@ -122,6 +131,7 @@ pub fn draw_list(list: &[u8], page: &mut [u8]) -> Result<Drawn, Refused> {
 mod tests {
     use super::*;
     use crate::format::encode_header;
+    use crate::lights::codes;
 
     fn header() -> Vec<u8> {
         encode_header(&Header {
@@ -139,16 +149,27 @@ mod tests {
             list.extend([2, 9]);
         }
         let missing_end = Refusal::CutShort.at(LONGEST_LIST);
-        assert_eq!(check(&list, 1), Err(missing_end));
+        assert_eq!(check(&list, 1, &codes()), Err(missing_end));
         list.push(0);
-        assert_eq!(check(&list, 1), Err(Refusal::ListTooLong.at(0)));
+        assert_eq!(check(&list, 1, &[]), Err(Refusal::ListTooLong.at(0)));
     }
 
     #[test]
     fn a_bare_header_lacks_its_end() {
         assert_eq!(
-            check(&header(), 1),
+            check(&header(), 1, &codes()),
             Err(Refusal::CutShort.at(HEADER_LENGTH))
         );
+    }
+
+    #[test]
+    fn lights_come_between_the_page_and_the_records() {
+        let number = |bytes, lights: &[u16]| {
+            let refused = check(&header(), bytes, lights).expect_err("the list lacks its end");
+            (refused.number, refused.place)
+        };
+        assert_eq!(number(0, &[]), (21, 0));
+        assert_eq!(number(1, &[]), (32, 0));
+        assert_eq!(number(1, &codes()), (5, HEADER_LENGTH));
     }
 }

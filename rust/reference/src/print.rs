@@ -1,5 +1,6 @@
 //! What the print program writes for a list.
 
+use crate::lights::codes;
 use crate::list::{draw_list, Drawn};
 use std::fmt::Write;
 
@@ -7,10 +8,10 @@ use std::fmt::Write;
 pub const PRINT_PAGE: usize = 65_536;
 const LEVELS_A_LINE: usize = 16;
 
-/// The page as plain PGM, or the refusal.
+/// The page as plain PGM, or the refusal. The program has lights equal to codes.
 pub fn print(list: &[u8]) -> String {
     let mut page = vec![0; PRINT_PAGE];
-    match draw_list(list, &mut page) {
+    match draw_list(list, &mut page, &codes()) {
         Ok(drawn) => plain_pgm(&drawn, &page),
         Err(refusal) => format!("refused {} at {}\n", refusal.number, refusal.place),
     }

@@ -17,6 +17,7 @@ pub enum Refusal {
     PageTooShort = 21,
     NoRoom = 22,
     Player = 31,
+    Lights = 32,
 }
 
 impl Refusal {

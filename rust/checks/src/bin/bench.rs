@@ -1,17 +1,19 @@
 //! Prints the library's time as a share of the time of a straightforward Rust version of the same
-//! rules (`baseline`), and how the library's time grows with the shape and with the page.
+//! rules (`baseline`), with lights equal to codes and with those of a screen's gamma, and how the
+//! library's time grows with the shape and with the page.
 //!
-//! Lines: `ratio NAME VALUE` and `growth NAME SIZE NANOSECONDS`, each kind after a line with `#`
-//! that names the inputs.
+//! Lines: `ratio NAME VALUE`, `over_codes NAME VALUE` (the library's time over its own with lights
+//! equal to codes) and `growth NAME SIZE NANOSECONDS`, each kind after a line with `#` that names
+//! the inputs.
 
+use checks::lights::named;
 use checks::random::Random;
 use checks::{baseline, baseline_list};
 use greystroke::{
-    check_list, draw_list, draw_shape, Clip, Disc, Header, Line, Record, Refusal, Ring, Setting,
-    Shape, Size, Writer, LATEST_VERSION, PLAYERS,
+    check_list, draw_list, draw_shape, Clip, Disc, Header, Lights, Line, ListRefusal, Picture,
+    Record, Refusal, Ring, Setting, Shape, Size, Writer, LATEST_VERSION, PLAYERS,
 };
 use std::hint::black_box;
-use std::mem::take;
 use std::time::{Duration, Instant};
 
 /// How long each ratio and each series of growth is measured.
@@ -25,88 +27,134 @@ const LONGEST_LIST: usize = 65_536;
 /// How often one shape is drawn between two looks at the clock.
 const REPEATS: usize = 32;
 
-type Draw = fn(&mut [u8], Size, Clip, u8, Shape) -> Result<u64, Refusal>;
+/// A random shape of one kind.
+type Make = fn(&mut Random) -> Shape;
+type Draw = fn(&mut [u8], Size, &Lights, Clip, u8, Shape) -> Result<u64, Refusal>;
+type DrawList = fn(&mut [u8], &Lights, &[u8]) -> Result<Picture, ListRefusal>;
+type CheckList = fn(&[u8], usize, &Lights) -> Result<Header, ListRefusal>;
+
+/// The gamma of a screen, as the tables have it.
+fn gamma() -> Lights {
+    Lights::new(&named("gamma")).expect("fit lights")
+}
+
+/// The library and the baseline with lights equal to codes.
+fn with_codes<T>(library: T, plain: T) -> Vec<(T, Lights)> {
+    vec![(library, Lights::codes()), (plain, Lights::codes())]
+}
+
+/// The library and the baseline with the gamma of a screen, and the library with codes.
+fn with_gamma<T: Copy>(library: T, plain: T) -> Vec<(T, Lights)> {
+    vec![
+        (library, gamma()),
+        (plain, gamma()),
+        (library, Lights::codes()),
+    ]
+}
 
 struct Job {
     level: u8,
     shape: Shape,
 }
 
-/// A page, and the function that draws on it.
-struct Painter {
-    draw: Draw,
-    page: Vec<u8>,
-    size: Size,
-}
-
-impl Painter {
-    /// A square page of all levels.
-    fn new(draw: Draw, side: u16) -> Painter {
-        let length = usize::from(side) * usize::from(side);
-        Painter {
-            draw,
-            page: (0..length).map(|k| (37 * k + 11) as u8).collect(),
-            size: Size {
-                width: side,
-                height: side,
-            },
-        }
-    }
-
-    /// Draws every job and hands back the pixels touched.
-    fn run(&mut self, jobs: &[Job]) -> u64 {
-        let clip = Clip::whole(self.size);
-        let draw = |job: &Job| (self.draw)(&mut self.page, self.size, clip, job.level, job.shape);
-        let counts = jobs.iter().map(draw);
-        counts.map(|count| count.expect("a lawful shape")).sum()
-    }
-
-    fn time(&mut self, jobs: &[Job]) -> Duration {
-        let start = Instant::now();
-        black_box(self.run(black_box(jobs)));
-        start.elapsed()
+fn square(side: u16) -> Size {
+    Size {
+        width: side,
+        height: side,
     }
 }
 
-/// The best times of the library and of the baseline, in turns on the same jobs and the same page:
-/// two pages would contend for the cache, more in one run than in another.
-fn best_of_both(jobs: &[Job]) -> (Duration, Duration) {
-    let mut library = Painter::new(draw_shape, SIDE);
-    let mut plain = Painter::new(baseline::draw_shape, SIDE);
-    assert_eq!(library.run(jobs), plain.run(jobs), "the counts differ");
-    assert_eq!(library.page, plain.page, "the pages differ");
-    let mut best = (Duration::MAX, Duration::MAX);
+/// The bytes of a square page, of all levels.
+fn page_of(side: u16) -> Vec<u8> {
+    let length = usize::from(side) * usize::from(side);
+    (0..length).map(|k| (37 * k + 11) as u8).collect()
+}
+
+/// Draws every job on a square page and hands back the pixels touched.
+fn draw_all(draw: Draw, lights: &Lights, page: &mut [u8], side: u16, jobs: &[Job]) -> u64 {
+    let (size, clip) = (square(side), Clip::whole(square(side)));
+    let draw = |job: &Job| draw(page, size, lights, clip, job.level, job.shape);
+    let counts = jobs.iter().map(draw);
+    counts.map(|count| count.expect("a lawful shape")).sum()
+}
+
+fn time<T>(job: impl FnOnce() -> T) -> Duration {
+    let start = Instant::now();
+    black_box(job());
+    start.elapsed()
+}
+
+/// Runs each of the jobs in turns on the same page and hands back the best time of each: several
+/// pages would contend for the cache, more in one run than in another.
+fn best_in_turns<T>(page: &mut [u8], jobs: &[impl Fn(&mut [u8]) -> T]) -> Vec<Duration> {
+    let mut best = vec![Duration::MAX; jobs.len()];
     let start = Instant::now();
     while start.elapsed() < RATIO_TIME {
-        best.0 = best.0.min(library.time(jobs));
-        plain.page = take(&mut library.page);
-        best.1 = best.1.min(plain.time(jobs));
-        library.page = take(&mut plain.page);
+        for (job, best) in jobs.iter().zip(&mut best) {
+            *best = (*best).min(time(|| job(page)));
+        }
     }
     best
 }
 
-fn nanoseconds(time: Duration, shapes: usize) -> f64 {
-    time.as_secs_f64() * 1e9 / shapes as f64
+/// Stops unless the first two jobs, the library and the baseline, leave the same page and answer.
+fn assert_alike<T: PartialEq>(jobs: &[impl Fn(&mut [u8]) -> T]) {
+    let (mut page, mut plain_page) = (page_of(SIDE), page_of(SIDE));
+    assert!(
+        jobs[0](&mut page) == jobs[1](&mut plain_page),
+        "the answers differ"
+    );
+    assert!(page == plain_page, "the pages differ");
 }
 
-fn print_ratio(name: &str, inputs: &str, shape: impl Fn(&mut Random) -> Shape) {
+/// Times the library, the baseline and, if there is a third job, the library with codes.
+fn print_ratio<T: PartialEq>(
+    name: &str,
+    (count, each): (usize, &str),
+    inputs: &str,
+    jobs: &[impl Fn(&mut [u8]) -> T],
+) {
+    assert_alike(jobs);
+    let times = best_in_turns(&mut page_of(SIDE), jobs);
+    let times: Vec<f64> = times.iter().map(|&time| nanoseconds(time, count)).collect();
+    println!("# {name}: {inputs}");
+    println!(
+        "# {name}: {:.0} ns a {each}, baseline {:.0} ns",
+        times[0], times[1]
+    );
+    println!("ratio {name} {:.2}", times[0] / times[1]);
+    if let Some(codes) = times.get(2) {
+        println!("# {name}: the library with codes {codes:.0} ns");
+        println!("over_codes {name} {:.2}", times[0] / codes);
+    }
+}
+
+fn nanoseconds(time: Duration, count: usize) -> f64 {
+    time.as_secs_f64() * 1e9 / count as f64
+}
+
+/// Random shapes at random levels, drawn each way.
+fn print_shape_ratio(
+    name: &str,
+    inputs: &str,
+    ways: &[(Draw, Lights)],
+    shape: impl Fn(&mut Random) -> Shape,
+) {
     let mut random = Random::new(7);
-    let jobs: Vec<Job> = (0..SHAPES)
-        .map(|_| Job {
-            level: random.between(0, 255) as u8,
-            shape: shape(&mut random),
+    let job = |_| Job {
+        level: random.between(0, 255) as u8,
+        shape: shape(&mut random),
+    };
+    let shapes: Vec<Job> = (0..SHAPES).map(job).collect();
+    let shapes = &shapes;
+    let jobs: Vec<_> = ways
+        .iter()
+        .map(|(draw, lights)| {
+            move |page: &mut [u8]| draw_all(*draw, lights, page, SIDE, black_box(shapes))
         })
         .collect();
-    let (library, plain) = best_of_both(&jobs);
-    println!("# {name}: {SHAPES} {inputs}, page {SIDE} by {SIDE}");
-    println!(
-        "# {name}: {:.0} ns a shape, baseline {:.0} ns",
-        nanoseconds(library, SHAPES),
-        nanoseconds(plain, SHAPES)
-    );
-    let ratio = library.as_secs_f64() / plain.as_secs_f64();
-    println!("ratio {name} {ratio:.2}");
+    let inputs = format!("{SHAPES} {inputs}, page {SIDE} by {SIDE}");
+    print_ratio(name, (SHAPES, "shape"), &inputs, &jobs);
 }
 
 /// A line with a longer span of `longer`, any direction, with both ends on the page.
@@ -206,56 +254,91 @@ fn ring(random: &mut Random, radius: i64, width: i64) -> Shape {
     })
 }
 
+fn long_line(random: &mut Random) -> Shape {
+    let longer = random.between(500, 1000);
+    line_within(random, longer)
+}
+
 fn print_line_ratios() {
-    print_ratio(
-        "long_lines",
-        "lines of 500 to 1,000 columns, all directions, half exact, ends on the page",
-        |random| {
-            let longer = random.between(500, 1000);
-            line_within(random, longer)
-        },
-    );
-    print_ratio(
-        "short_lines",
-        "lines of 16 columns, all directions, half exact, ends on the page",
-        |random| line_within(random, 16),
-    );
-    print_ratio(
-        "tiny_lines",
-        "lines of 2 columns, all directions, half exact, ends on the page",
-        |random| line_within(random, 2),
-    );
-    print_ratio(
-        "far_lines",
-        "lines with ends 2,000 to 3,300 from the page's middle, all directions, half exact",
-        far_line,
-    );
-    print_ratio(
-        "flung_lines",
-        "lines with one end on the page and the other anywhere in range, half exact",
-        flung_line,
-    );
-    print_ratio(
-        "missed_lines",
-        "lines of 500 to 1,000 columns beside the page, all directions, half exact",
-        missed_line,
-    );
+    let lines: [(&str, &str, Make); 6] = [
+        (
+            "long_lines",
+            "lines of 500 to 1,000 columns, all directions, half exact, ends on the page",
+            long_line,
+        ),
+        (
+            "short_lines",
+            "lines of 16 columns, all directions, half exact, ends on the page",
+            |random| line_within(random, 16),
+        ),
+        (
+            "tiny_lines",
+            "lines of 2 columns, all directions, half exact, ends on the page",
+            |random| line_within(random, 2),
+        ),
+        (
+            "far_lines",
+            "lines with ends 2,000 to 3,300 from the page's middle, all directions, half exact",
+            far_line,
+        ),
+        (
+            "flung_lines",
+            "lines with one end on the page and the other anywhere in range, half exact",
+            flung_line,
+        ),
+        (
+            "missed_lines",
+            "lines of 500 to 1,000 columns beside the page, all directions, half exact",
+            missed_line,
+        ),
+    ];
+    let ways = with_codes(draw_shape as Draw, baseline::draw_shape);
+    for (name, inputs, line) in lines {
+        print_shape_ratio(name, inputs, &ways, line);
+    }
 }
 
 fn print_circle_ratios() {
+    let ways = with_codes(draw_shape as Draw, baseline::draw_shape);
     for (name, radius) in [("discs_tiny", 4), ("discs_small", 20), ("discs", 255)] {
         let inputs = format!("discs of radius 1 to {radius}, centre on the page");
-        print_ratio(name, &inputs, |random| Shape::Disc(disc(random, radius)));
+        print_shape_ratio(name, &inputs, &ways, |random| {
+            Shape::Disc(disc(random, radius))
+        });
     }
     for (name, radius, width) in [("rings_small", 20, 20), ("rings", 255, 255)] {
         let inputs =
             format!("rings of radius 1 to {radius}, width 1 to the radius, centre on the page");
-        print_ratio(name, &inputs, |random| ring(random, radius, width));
+        print_shape_ratio(name, &inputs, &ways, |random| ring(random, radius, width));
     }
-    print_ratio(
+    print_shape_ratio(
         "rings_thin",
         "rings of radius 1 to 255, width 1 to 3, centre on the page",
+        &ways,
         |random| ring(random, 255, 3),
+    );
+}
+
+/// The same shapes as in the rows without `_gamma`.
+fn print_gamma_ratios() {
+    let ways = with_gamma(draw_shape as Draw, baseline::draw_shape_in_light);
+    print_shape_ratio(
+        "long_lines_gamma",
+        "lines of 500 to 1,000 columns, gamma of a screen",
+        &ways,
+        long_line,
+    );
+    print_shape_ratio(
+        "short_lines_gamma",
+        "lines of 16 columns, gamma of a screen",
+        &ways,
+        |random| line_within(random, 16),
+    );
+    print_shape_ratio(
+        "discs_gamma",
+        "discs of radius 1 to 255, gamma of a screen",
+        &ways,
+        |random| Shape::Disc(disc(random, 255)),
     );
 }
 
@@ -284,14 +367,10 @@ fn wide_clip(random: &mut Random) -> Clip {
 
 /// A writer past the header of a list for the largest page.
 fn started(list: &mut [u8]) -> Writer<'_> {
-    let size = Size {
-        width: SIDE,
-        height: SIDE,
-    };
     let mut writer = Writer::new(list);
     let header = Header {
         version: LATEST_VERSION,
-        size,
+        size: square(SIDE),
         background: 255,
     };
     writer.write_header(header).expect("a lawful header");
@@ -353,63 +432,45 @@ fn full_list() -> Vec<u8> {
     list
 }
 
-/// The best times of two jobs in turns on one page.
-fn best_in_turns<T>(
-    page: &mut [u8],
-    one: impl Fn(&mut [u8]) -> T,
-    other: impl Fn(&mut [u8]) -> T,
-) -> (Duration, Duration) {
-    let mut best = (Duration::MAX, Duration::MAX);
-    let start = Instant::now();
-    while start.elapsed() < RATIO_TIME {
-        let begin = Instant::now();
-        black_box(one(page));
-        let between = Instant::now();
-        black_box(other(page));
-        best.0 = best.0.min(between - begin);
-        best.1 = best.1.min(between.elapsed());
-    }
-    best
-}
-
-fn print_list_ratio(name: &str, inputs: &str, (library, plain): (Duration, Duration)) {
-    println!("# {name}: {inputs}");
-    let (found, base) = (nanoseconds(library, 1), nanoseconds(plain, 1));
-    println!("# {name}: {found:.0} ns a list, baseline {base:.0} ns");
-    println!("ratio {name} {:.2}", found / base);
+/// Draws the list each way.
+fn print_drawn_list(name: &str, inputs: &str, ways: &[(DrawList, Lights)], list: &[u8]) {
+    let jobs: Vec<_> = ways
+        .iter()
+        .map(|(draw, lights)| {
+            move |page: &mut [u8]| draw(page, lights, black_box(list)).expect("a lawful list")
+        })
+        .collect();
+    print_ratio(name, (1, "list"), inputs, &jobs);
 }
 
 fn print_list_ratios() {
     let list = mixed_list(LISTED_SHAPES);
-    let length = usize::from(SIDE) * usize::from(SIDE);
-    let (mut page, mut plain_page) = (vec![0; length], vec![0; length]);
-    let drawn = draw_list(&mut page, &list);
-    assert!(drawn.is_ok() && drawn == baseline_list::draw_list(&mut plain_page, &list));
-    assert!(page == plain_page, "the pages differ");
-    let times = best_in_turns(
-        &mut page,
-        |page| draw_list(page, black_box(&list)),
-        |page| baseline_list::draw_list(page, black_box(&list)),
-    );
     let inputs = format!("{LISTED_SHAPES} mixed shapes, checked and drawn, page {SIDE} by {SIDE}");
-    print_list_ratio("mixed_list", &inputs, times);
+    let ways = with_codes(draw_list as DrawList, baseline_list::draw_list);
+    print_drawn_list("mixed_list", &inputs, &ways, &list);
+    let ways = with_gamma(draw_list as DrawList, baseline_list::draw_list_in_light);
+    let inputs = format!("{inputs}, gamma of a screen");
+    print_drawn_list("mixed_list_gamma", &inputs, &ways, &list);
 
     let list = full_list();
-    let checked = check_list(&list, length);
-    assert!(checked.is_ok() && checked == baseline_list::check_list(&list, length));
-    let times = best_in_turns(
-        &mut page,
-        |_| check_list(black_box(&list), length),
-        |_| baseline_list::check_list(black_box(&list), length),
-    );
     let inputs = format!("a list of {} bytes of mixed records, checked", list.len());
-    print_list_ratio("check_list", &inputs, times);
+    let jobs: Vec<_> = with_codes(check_list as CheckList, baseline_list::check_list)
+        .into_iter()
+        .map(|(check, lights)| {
+            let list = &list;
+            move |page: &mut [u8]| {
+                check(black_box(list), page.len(), &lights).expect("a lawful list")
+            }
+        })
+        .collect();
+    print_ratio("check_list", (1, "list"), &inputs, &jobs);
 }
 
 /// One shape, drawn again and again on a square page.
 struct Sample {
     size: u16,
-    painter: Painter,
+    side: u16,
+    page: Vec<u8>,
     jobs: Vec<Job>,
     best: Duration,
 }
@@ -422,7 +483,8 @@ impl Sample {
         };
         Sample {
             size,
-            painter: Painter::new(draw_shape, side),
+            side,
+            page: page_of(side),
             jobs: (0..REPEATS).map(job).collect(),
             best: Duration::MAX,
         }
@@ -431,10 +493,13 @@ impl Sample {
 
 /// The best times of the library, in turns, so that a disturbance meets all sizes alike.
 fn print_growth(name: &str, mut samples: Vec<Sample>) {
+    let codes = Lights::codes();
     let start = Instant::now();
     while start.elapsed() < GROWTH_TIME {
         for sample in &mut samples {
-            sample.best = sample.best.min(sample.painter.time(&sample.jobs));
+            let (page, side) = (&mut sample.page, sample.side);
+            let drawn = || draw_all(draw_shape, &codes, page, side, black_box(&sample.jobs));
+            sample.best = sample.best.min(time(drawn));
         }
     }
     for Sample { size, best, .. } in samples {
@@ -517,6 +582,7 @@ fn print_page_growth() {
 fn main() {
     print_line_ratios();
     print_circle_ratios();
+    print_gamma_ratios();
     print_list_ratios();
     print_shape_growth();
     print_page_growth();
