@@ -13,6 +13,7 @@ use Rattle.lights.specs.Blend.{blendedLight, blend}
 use Rattle.lights.specs.inner.Fit.{Rising, Fit}
 use Rattle.lights.specs.inner.Palette.{middle, Between, AtMost, NextTwo, lightsIn, guessOf, reachOf, paletteSize, Guess, Guesses, FilledFrom, Palette}
 use Rattle.lights.proofs.Nearest.{light-mono, middle-none, middle-some, middle-past, nearest-code}
+use Rattle.lights.proofs.Blend.{weighted-le}
 
 -- ---- the middles
 
@@ -119,10 +120,6 @@ whole-between light x d a b some h =
     }
 
 -- ---- the blend
-
--- two parts of d at most t each are at most t·d together
-weighted-le : (a b n d t : ℕ) → a ≤ t → b ≤ t → n ≤ d → a * (d - n) + b * n ≤ t * d
-weighted-le a b n d t ha hb h = omega (arith, mul-le-mul-right (d - n) ha, mul-le-mul-right n hb, ap (λ (k : ℕ). t * k) (add-sub-of-le h))
 
 -- twice the blended light is at most twice the greatest light
 pub doubled-most : (a b n d : ℕ) → a ≤ 65535 → b ≤ 65535 → n ≤ d → 2 * (a * (d - n) + b * n) ≤ 131070 * d
