@@ -9,7 +9,7 @@ use lib.ListN.{length, getD, set, replicate, take, drop, length-set}
 use Rattle.numbers.specs.Sum.{total}
 use Rattle.numbers.proofs.Order.{cond-le}
 use Rattle.numbers.proofs.Sum.{total-++}
-use Rattle.shapes.specs.Limits.{sizeRefusal, shapeRefusal, recordRefusal}
+use Rattle.shapes.specs.Limits.{shapeRefusal, recordRefusal}
 use Rattle.shapes.proofs.Limits.{basis-size}
 use Rattle.shapes.specs.declared.Shape.{Shape}
 use Rattle.shapes.specs.declared.Setting.the-variants.{Clip as clip, Level as level, Player as player}
@@ -29,7 +29,7 @@ use Rattle.draw.proofs.Touches.{page-touched, count-touched}
 use Rattle.lists.specs.Drawing.{Drawing, drawingOf, drawingsFrom}
 use Rattle.lists.specs.Settings.{start, inForce}
 use Rattle.drawing.specs.Counts.{drawingCount, shapesCount, ownOf, playerCounts}
-use Rattle.drawing.specs.inner.Walk.{shapesPage, Drawable, AllLawful, ShapesDrawn, ListDrawn}
+use Rattle.drawing.specs.inner.Walk.{shapesPage, Drawable, AllLawful, ShapesDrawn}
 use Rattle.lists.specs.inner.Walk.{recordsIn, listRecords, listDrawings, playersIn}
 use Rattle.lists.specs.declared.settings.Settings.{Settings}
 use Rattle.drawing.proofs.Shapes.{page-then, length-shapes}

@@ -9,7 +9,7 @@ use Rattle.numbers.specs.Fraction.{Within}
 use Rattle.page.specs.Page.{over}
 use Rattle.lists.specs.Format.{headerAt, basisOf}
 use Rattle.lists.specs.List.{Records, accepted, refused, recordsOf}
-use Rattle.lists.specs.Drawing.{Drawing, drawings}
+use Rattle.lists.specs.Drawing.{drawings}
 use Rattle.lists.specs.declared.format.Header.{Header}
 use Rattle.bound.specs.Exact.{Touch, whole}
 use Rattle.bound.specs.Codes.{codeAfter, exactCodeAfter, codeBoundOf}

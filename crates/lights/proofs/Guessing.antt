@@ -1,9 +1,9 @@
 -- The guesses of a palette, and the tests that lead from a guess to the code.
 use mathlib.Core.List.{List, [], _∷_}
 use mathlib.Core.Logic.{_⊎_, inl, inr, ⊎-elim}
-use mathlib.Core.Path.{_≡_, refl, sym, _∙_, ap, subst}
+use mathlib.Core.Path.{_≡_, refl, sym, _∙_, subst}
 use Prim.Native.Nat.{ℕ, zero, suc, _+_, _*_, _-_, _^_, _/_, _≤_, _<_}
-use native.Mathlib.Nat.{mul-le-mul-right, mul-le-mul-left, le-of-mul-le-mul-right, le-div-iff-mul-le, lt-mul-div-succ, div-mul-le-self, add-sub-of-le}
+use native.Mathlib.Nat.{mul-le-mul-right, mul-le-mul-left, le-of-mul-le-mul-right, le-div-iff-mul-le, lt-mul-div-succ, div-mul-le-self}
 use native.Mathlib.Omega.{arith}
 use lib.ListN.{getD, set, length, length-take, length-set, replicate}
 use lib.Seq.{getD-set-same, getD-set-other, getD-take, ext-getD}

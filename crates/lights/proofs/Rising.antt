@@ -1,6 +1,6 @@
 -- What the tests of lights tell.
 use mathlib.Core.Bool.{Bool, true, false, true≢false, not, cond, _&&_, and-true, and-false}
-use mathlib.Core.Path.{_≡_, refl, sym, _∙_, ap, subst}
+use mathlib.Core.Path.{_≡_, refl, _∙_, ap, subst}
 use mathlib.Core.Logic.{⊎-elim}
 use mathlib.Core.List.{List}
 use Prim.Native.Nat.{ℕ, zero, suc, _+_, _*_, _-_, _^_, _%_, _≤_, _<_}

@@ -1,5 +1,5 @@
 -- The turn at i has counted those of lights 0 to i − 1 that stand at their step; where it met all, each does.
-use mathlib.Core.Path.{_≡_, _∙_, ap}
+use mathlib.Core.Path.{_≡_, _∙_}
 use Prim.Native.Nat.{ℕ, _+_, _*_, _-_, _^_, _%_, _≤_, _<_}
 use native.Mathlib.Omega.{arith}
 use Rattle.lights.specs.Lights.{lightOf}

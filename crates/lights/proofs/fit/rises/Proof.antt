@@ -1,6 +1,6 @@
 -- The turn at i has counted those of lights 1 to i that do not rise.
 use mathlib.Core.Path.{_≡_, ap, sym, _∙_}
-use Prim.Native.Nat.{ℕ, _-_, _≤_}
+use Prim.Native.Nat.{_-_, _≤_}
 use native.Mathlib.Omega.{arith}
 use lib.Dec.{eqb}
 use Rattle.lights.specs.Lights.{lightOf, risesTo}

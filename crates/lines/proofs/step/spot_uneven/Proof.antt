@@ -1,5 +1,4 @@
 -- Coverage 0 leaves the page as it was, and touches nothing.
-use mathlib.Core.Path.{_≡_}
 use Prim.Native.Nat.{_<_}
 use native.Mathlib.Omega.{arith}
 use Rattle.lights.specs.inner.Palette.{lightsIn}
