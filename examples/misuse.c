@@ -90,16 +90,28 @@ static bool is_line(struct greystroke_shape shape) {
         || shape.kind == GREYSTROKE_KIND_APPROXIMATE_LINE;
 }
 
+/* Version 1 has neither a big disc nor a big ring. */
+static bool is_big(struct greystroke_shape shape) {
+    return shape.kind == GREYSTROKE_KIND_BIG_DISC || shape.kind == GREYSTROKE_KIND_BIG_RING;
+}
+
+/* A shape in the calls that write it, with room and without. */
+static void try_written(uint32_t number, struct greystroke_shape shape) {
+    uint32_t in_version_1 = is_big(shape) ? GREYSTROKE_UNKNOWN_KIND : number;
+    WRITE_REFUSED(in_version_1, 10, basis_1,
+        greystroke_write_shape(room, sizeof room, 10, basis_1, shape));
+    WRITE_REFUSED(number, 10, basis_2,
+        greystroke_write_shape(room, sizeof room, 10, basis_2, shape));
+    WRITE_REFUSED(number, 10, basis_2, greystroke_write_shape(NULL, 0, 10, basis_2, shape));
+}
+
 /* A shape in each call that takes one. One that is no line has no last column. */
 static void try_shape(uint32_t number, struct greystroke_shape shape) {
     REFUSED(draw, number, 0, draw_shape(page, sizeof page, SIDE, SIDE, whole, shape));
     REFUSED(column, is_line(shape) ? number : GREYSTROKE_UNKNOWN_KIND, 0,
         greystroke_last_column(SIDE, SIDE, whole, shape));
     REFUSED(coverage, number, 0, greystroke_coverage(shape, 0, 0));
-    WRITE_REFUSED(number, 10, basis_1,
-        greystroke_write_shape(room, sizeof room, 10, basis_1, shape));
-    WRITE_REFUSED(number, 10, basis_2,
-        greystroke_write_shape(room, sizeof room, 10, basis_2, shape));
+    try_written(number, shape);
 }
 
 static const struct greystroke_shape lawful[] = {
@@ -107,15 +119,59 @@ static const struct greystroke_shape lawful[] = {
     {GREYSTROKE_KIND_APPROXIMATE_LINE, {1, 1, 5, 3, 0, 0}},
     {GREYSTROKE_KIND_DISC, {4, 4, 3, 0, 0, 0}},
     {GREYSTROKE_KIND_RING, {4, 4, 3, 2, 0, 0}},
+    {GREYSTROKE_KIND_BIG_DISC, {4, 4, 300, 0, 0, 0}},
+    {GREYSTROKE_KIND_BIG_RING, {4, 4, 1023, 258, 0, 0}},
 };
 
 /* Cut to 16 bits, each but the first four would be in range. */
 static const int32_t no_coordinate[] = {4096, -4097, 32767, -32768, 65536, 65537, -65536, 131075,
     INT32_MAX, INT32_MIN};
-static const int32_t no_measure[] = {0, 256, -1, 65535, 65536, 65537, -65535, INT32_MAX, INT32_MIN};
+/* Cut to 16 bits, some of these would be in range. */
+static const int32_t too_small[] = {0, -1, -1024, -65535, -65536 + 3, INT32_MIN};
+static const int32_t too_large[] = {1024, 32768, 65535, 65536, 65536 + 3, 131072 + 300, INT32_MAX};
+
+/* A radius in each kind that has one, before any width. */
+static void try_radius(uint32_t number, int32_t radius) {
+    try_shape(number, greystroke_disc(4, 4, radius));
+    try_shape(number, greystroke_big_disc(4, 4, radius));
+    for (int32_t width = 0; width <= 1; width++) {
+        try_shape(number, greystroke_ring(4, 4, radius, width));
+        try_shape(number, greystroke_big_ring(4, 4, radius, width));
+    }
+}
+
+static void try_width(int32_t radius, int32_t width) {
+    try_shape(GREYSTROKE_RING_WIDTH, greystroke_big_ring(4, 4, radius, width));
+    if (radius <= UINT8_MAX)
+        try_shape(GREYSTROKE_RING_WIDTH, greystroke_ring(4, 4, radius, width));
+}
+
+static void try_measures(void) {
+    static const int32_t not_of_one_byte[] = {256, 300, 1023};
+    for (size_t k = 0; k < COUNT(too_small); k++) {
+        try_radius(GREYSTROKE_RADIUS, too_small[k]);
+        try_width(3, too_small[k]);
+        try_width(1023, too_small[k]);
+    }
+    for (size_t k = 0; k < COUNT(too_large); k++) {
+        try_radius(GREYSTROKE_RADIUS_TOO_LARGE, too_large[k]);
+        try_width(3, too_large[k]);
+        try_width(1023, too_large[k]);
+    }
+    try_width(3, 4);
+    try_width(255, 256);
+    try_width(1022, 1023);
+    /* a record of kind 5 or 6 has one byte for these */
+    for (size_t k = 0; k < COUNT(not_of_one_byte); k++) {
+        int32_t radius = not_of_one_byte[k];
+        try_written(GREYSTROKE_RADIUS_TOO_LARGE, greystroke_disc(4, 4, radius));
+        try_written(GREYSTROKE_RADIUS_TOO_LARGE, greystroke_ring(4, 4, radius, radius));
+        try_written(GREYSTROKE_RADIUS_TOO_LARGE, greystroke_ring(4, 4, radius, 0));
+    }
+}
 
 static void try_shapes(void) {
-    static const uint32_t no_shape[] = {0, 1, 2, 7, 8, 255, 256 + 3, 65536 + 3, UINT32_MAX};
+    static const uint32_t no_shape[] = {0, 1, 2, 7, 10, 255, 256 + 3, 65536 + 3, UINT32_MAX};
     for (size_t i = 0; i < COUNT(no_shape); i++) {
         struct greystroke_shape shape = {no_shape[i], {1, 1, 5, 3, 0, 0}};
         try_shape(GREYSTROKE_UNKNOWN_KIND, shape);
@@ -135,12 +191,6 @@ static void try_shapes(void) {
             }
     try_shape(GREYSTROKE_EQUAL_ENDS, greystroke_exact_line(3, 2, 3, 2));
     try_shape(GREYSTROKE_EQUAL_ENDS, greystroke_approximate_line(-4096, 4095, -4096, 4095));
-    for (size_t k = 0; k < COUNT(no_measure); k++) {
-        try_shape(GREYSTROKE_RADIUS, greystroke_disc(4, 4, no_measure[k]));
-        try_shape(GREYSTROKE_RADIUS, greystroke_ring(4, 4, no_measure[k], 1));
-        try_shape(GREYSTROKE_RING_WIDTH, greystroke_ring(4, 4, 3, no_measure[k]));
-    }
-    try_shape(GREYSTROKE_RING_WIDTH, greystroke_ring(4, 4, 3, 4));
 }
 
 static void try_pixels(void) {
@@ -320,7 +370,15 @@ static void try_places(void) {
 /* ---- lists ---- */
 
 /* Which record of the list is which. */
-enum { CLIP_RECORD = 0, PLAYER_RECORD = 2, FIRST_SHAPE = 3, DISC_RECORD = 5, RING_RECORD = 6 };
+enum {
+    CLIP_RECORD = 0,
+    PLAYER_RECORD = 2,
+    FIRST_SHAPE = 3,
+    DISC_RECORD = 5,
+    RING_RECORD = 6,
+    BIG_DISC_RECORD = 7,
+    BIG_RING_RECORD = 8
+};
 
 static uint8_t list[ROOM];
 static size_t starts[16]; /* where each record begins; the last is the list's length */
@@ -441,7 +499,7 @@ static void try_bytes(void) {
     for (size_t i = 5; i < 9; i++)
         try_byte(GREYSTROKE_PAGE_SIZE, 0, i, i % 2 == 1 ? 0 : 5);
     for (size_t r = 0; r + 1 < records; r++)
-        try_byte(GREYSTROKE_UNKNOWN_KIND, starts[r], starts[r], 8);
+        try_byte(GREYSTROKE_UNKNOWN_KIND, starts[r], starts[r], 10);
     /* in version 1 the player is the first record that is refused */
     try_byte(GREYSTROKE_UNKNOWN_KIND, starts[PLAYER_RECORD], 3, 1);
     try_byte(GREYSTROKE_PLAYER, starts[PLAYER_RECORD], starts[PLAYER_RECORD] + 1, PLAYERS);
@@ -451,12 +509,16 @@ static void try_bytes(void) {
         try_byte(GREYSTROKE_COORDINATE, starts[r], starts[r] + 2, 16);
     try_byte(GREYSTROKE_RADIUS, starts[DISC_RECORD], starts[DISC_RECORD] + 5, 0);
     try_byte(GREYSTROKE_RING_WIDTH, starts[RING_RECORD], starts[RING_RECORD] + 6, 4);
+    try_byte(GREYSTROKE_RADIUS_TOO_LARGE, starts[BIG_DISC_RECORD], starts[BIG_DISC_RECORD] + 6, 4);
+    try_byte(GREYSTROKE_RADIUS_TOO_LARGE, starts[BIG_RING_RECORD], starts[BIG_RING_RECORD] + 6, 4);
+    try_byte(GREYSTROKE_RING_WIDTH, starts[BIG_RING_RECORD], starts[BIG_RING_RECORD] + 8, 4);
 }
 
 static void try_records(void) {
     static const struct greystroke_basis narrower = {2, SIDE - 1, SIDE};
-    static const uint8_t unknown[] = {8, 0, 0, 0, 0, 0, 0, 0, 0, 0};
+    static const uint8_t unknown[] = {10, 0, 0, 0, 0, 0, 0, 0, 0, 0};
     static const uint8_t player[] = {GREYSTROKE_KIND_PLAYER, PLAYERS};
+    static const uint8_t no_big_disc[] = {GREYSTROKE_KIND_BIG_DISC, 0, 0, 0, 0, 0, 0};
     REFUSED(read, GREYSTROKE_CUT_SHORT, 0, greystroke_read_record(NULL, 0, basis_2));
     for (size_t r = 0; r + 1 < records; r++)
         for (size_t n = 0; n < starts[r + 1] - starts[r]; n++)
@@ -467,6 +529,11 @@ static void try_records(void) {
     REFUSED(read, GREYSTROKE_PLAYER, 0, greystroke_read_record(player, sizeof player, basis_2));
     for (size_t n = 1; n <= sizeof player; n++)
         REFUSED(read, GREYSTROKE_UNKNOWN_KIND, 0, greystroke_read_record(player, n, basis_1));
+    REFUSED(read, GREYSTROKE_RADIUS, 0,
+        greystroke_read_record(no_big_disc, sizeof no_big_disc, basis_2));
+    for (size_t n = 1; n <= sizeof no_big_disc; n++)
+        REFUSED(read, GREYSTROKE_UNKNOWN_KIND, 0,
+            greystroke_read_record(no_big_disc, n, basis_1));
     REFUSED(read, GREYSTROKE_CLIP, 0,
         greystroke_read_record(list + starts[0], sizeof list - starts[0], narrower));
 }
@@ -495,6 +562,15 @@ static void expect_column(
     }
 }
 
+/* A pixel next to the centre is covered whole, whatever kind the disc has. */
+static void expect_whole(struct greystroke_shape shape) {
+    struct greystroke_coverage_answer answer = greystroke_coverage(shape, 4, 4);
+    if (answer.refusal != 0 || answer.place != 0 || answer.n != 512 || answer.d != 512) {
+        wrong = true;
+        printf("kind %u does not cover the pixel\n", (unsigned)shape.kind);
+    }
+}
+
 /* What is lawful is taken. */
 static void try_lawful(void) {
     static const struct greystroke_clip corner = {6, 6, SIDE, SIDE};
@@ -503,6 +579,12 @@ static void try_lawful(void) {
     for (size_t s = 0; s < 2; s++) {
         expect_column(greystroke_last_column(SIDE, SIDE, whole, lawful[s]), 1, 3);
         expect_column(greystroke_last_column(SIDE, SIDE, corner, lawful[s]), 0, 0);
+    }
+    for (int32_t radius = 2; radius <= 1023; radius++) {
+        expect_whole(greystroke_disc(4, 4, radius));
+        expect_whole(greystroke_big_disc(4, 4, radius));
+        expect_whole(greystroke_ring(4, 4, radius, radius));
+        expect_whole(greystroke_big_ring(4, 4, radius, radius));
     }
     expect_read(PLAYER_RECORD, GREYSTROKE_KIND_PLAYER, player);
     for (size_t s = 0; s < COUNT(lawful); s++)
@@ -524,6 +606,7 @@ int main(void) {
     greystroke_code_lights(lights);
     write_list();
     try_shapes();
+    try_measures();
     try_pixels();
     try_columns();
     try_pages();

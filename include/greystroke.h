@@ -42,24 +42,26 @@ extern "C" {
 /* ---- refusals (R8.1) ---- */
 
 enum greystroke_refusal {
-    GREYSTROKE_WRONG_MARK = 1,      /* a list without the letters INK */
-    GREYSTROKE_WRONG_VERSION = 2,   /* a version of a list other than 1 or 2 */
-    GREYSTROKE_PAGE_SIZE = 3,       /* W or H outside 1 to 1,024 */
-    GREYSTROKE_UNKNOWN_KIND = 4,    /* a kind of record that the version does not have, or a kind
-                                       that is no shape, or no line where a line is asked for */
-    GREYSTROKE_CUT_SHORT = 5,       /* a header or a record cut short, or no end record */
-    GREYSTROKE_SURPLUS_BYTES = 6,   /* bytes behind the end record */
-    GREYSTROKE_COORDINATE = 7,      /* a coordinate outside -4,096 to 4,095 */
-    GREYSTROKE_CLIP = 8,            /* a clip out of order or off the page */
-    GREYSTROKE_EQUAL_ENDS = 9,      /* a line whose ends coincide */
-    GREYSTROKE_RADIUS = 10,         /* a radius outside 1 to 255 */
-    GREYSTROKE_RING_WIDTH = 11,     /* a ring's width outside 1 to the radius */
-    GREYSTROKE_LIST_TOO_LONG = 12,  /* a list of more than 65,536 bytes */
-    GREYSTROKE_PAGE_TOO_SHORT = 21, /* a page shorter than W * H bytes */
-    GREYSTROKE_NO_ROOM = 22,        /* too few bytes left in a list being written, or a place of a
-                                       record under 10 or past the list */
-    GREYSTROKE_PLAYER = 31,         /* a player above 7 */
-    GREYSTROKE_LIGHTS = 32          /* lights not 256 in number, or not strictly rising */
+    GREYSTROKE_WRONG_MARK = 1,       /* a list without the letters INK */
+    GREYSTROKE_WRONG_VERSION = 2,    /* a version of a list other than 1 or 2 */
+    GREYSTROKE_PAGE_SIZE = 3,        /* W or H outside 1 to 1,024 */
+    GREYSTROKE_UNKNOWN_KIND = 4,     /* a kind of record that the version does not have, or a kind
+                                        that is no shape, or no line where a line is asked for */
+    GREYSTROKE_CUT_SHORT = 5,        /* a header or a record cut short, or no end record */
+    GREYSTROKE_SURPLUS_BYTES = 6,    /* bytes behind the end record */
+    GREYSTROKE_COORDINATE = 7,       /* a coordinate outside -4,096 to 4,095 */
+    GREYSTROKE_CLIP = 8,             /* a clip out of order or off the page */
+    GREYSTROKE_EQUAL_ENDS = 9,       /* a line whose ends coincide */
+    GREYSTROKE_RADIUS = 10,          /* a radius of 0 or below */
+    GREYSTROKE_RING_WIDTH = 11,      /* a ring's width outside 1 to the radius */
+    GREYSTROKE_LIST_TOO_LONG = 12,   /* a list of more than 65,536 bytes */
+    GREYSTROKE_PAGE_TOO_SHORT = 21,  /* a page shorter than W * H bytes */
+    GREYSTROKE_NO_ROOM = 22,         /* too few bytes left in a list being written, or a place of a
+                                        record under 10 or past the list */
+    GREYSTROKE_PLAYER = 31,          /* a player above 7 */
+    GREYSTROKE_LIGHTS = 32,          /* lights not 256 in number, or not strictly rising */
+    GREYSTROKE_RADIUS_TOO_LARGE = 33 /* a radius above 1,023, or above 255 in a record of kind 5 or
+                                        6, which has one byte for it */
 };
 
 /* ---- shapes and clips ---- */
@@ -73,11 +75,16 @@ enum greystroke_kind {
     GREYSTROKE_KIND_APPROXIMATE_LINE = 4,
     GREYSTROKE_KIND_DISC = 5,
     GREYSTROKE_KIND_RING = 6,
-    GREYSTROKE_KIND_PLAYER = 7 /* a setting of version 2 */
+    GREYSTROKE_KIND_PLAYER = 7, /* a setting; this and what follows are of version 2 alone */
+    GREYSTROKE_KIND_BIG_DISC = 8,
+    GREYSTROKE_KIND_BIG_RING = 9
 };
 
 /* A shape: its kind, and its numbers in the order of the record's fields. Numbers past those that
- * a kind has are ignored. */
+ * a kind has are ignored. Kinds 5 and 8 are the same disc, and kinds 6 and 9 the same ring: a
+ * record of kind 5 or 6 has one byte each for radius and width, and one of kind 8 or 9 two bytes
+ * each. Only a writer tells them apart; every other call takes any radius of 1 to 1,023 under
+ * either kind. */
 struct greystroke_shape {
     uint32_t kind;
     int32_t numbers[6];
@@ -97,16 +104,30 @@ static inline struct greystroke_shape greystroke_approximate_line(
     return shape;
 }
 
-/* A disc about corner (x, y) (R5). */
+/* A disc about corner (x, y) (R5), to be written as kind 5 with a radius of at most 255. */
 static inline struct greystroke_shape greystroke_disc(int32_t x, int32_t y, int32_t radius) {
     struct greystroke_shape shape = {GREYSTROKE_KIND_DISC, {x, y, radius, 0, 0, 0}};
     return shape;
 }
 
-/* A disc less the disc whose radius is smaller by the width (R5.3). */
+/* A disc less the disc whose radius is smaller by the width (R5.3), to be written as kind 6 with a
+ * radius of at most 255. */
 static inline struct greystroke_shape greystroke_ring(
     int32_t x, int32_t y, int32_t radius, int32_t width) {
     struct greystroke_shape shape = {GREYSTROKE_KIND_RING, {x, y, radius, width, 0, 0}};
+    return shape;
+}
+
+/* A disc to be written as kind 8, which version 1 does not have. */
+static inline struct greystroke_shape greystroke_big_disc(int32_t x, int32_t y, int32_t radius) {
+    struct greystroke_shape shape = {GREYSTROKE_KIND_BIG_DISC, {x, y, radius, 0, 0, 0}};
+    return shape;
+}
+
+/* A ring to be written as kind 9, which version 1 does not have. */
+static inline struct greystroke_shape greystroke_big_ring(
+    int32_t x, int32_t y, int32_t radius, int32_t width) {
+    struct greystroke_shape shape = {GREYSTROKE_KIND_BIG_RING, {x, y, radius, width, 0, 0}};
     return shape;
 }
 
@@ -141,7 +162,7 @@ struct greystroke_draw_answer {
 };
 
 /* Blends a shape at a level, in light, into the pixels of a page of w by h that the clip keeps
- * (R6.1). Refused, in this order: 4 where the kind is no shape, then 3, 21, 32, 8, 7, 9, 10, 11
+ * (R6.1). Refused, in this order: 4 where the kind is no shape, then 3, 21, 32, 8, 7, 9, 10, 33, 11
  * (R8.4, R8.7). */
 struct greystroke_draw_answer greystroke_draw_shape(
     uint8_t *page, size_t page_length, uint32_t w, uint32_t h, const uint16_t *lights,
@@ -174,14 +195,14 @@ struct greystroke_coverage_answer {
 
 /* The share of pixel (x, y) that a shape covers.
  * Refused, in this order: 4 where the kind is no shape, then 7 of the shape, 7 of the pixel, 9, 10,
- * 11 (R8.4). */
+ * 33, 11 (R8.4, R8.7). */
 struct greystroke_coverage_answer greystroke_coverage(
     struct greystroke_shape shape, int32_t x, int32_t y);
 
 /* ---- a whole list (R7) ---- */
 
-/* The version of list to write. Lists of version 1, which have no player, are read and written as
- * well (R7.2, R7.3). */
+/* The version of list to write. Lists of version 1, which have no player and no big disc or ring,
+ * are read and written as well (R7.2, R7.3). */
 #define GREYSTROKE_LIST_VERSION 2
 
 /* What the records of a list are read and written against: its version, and the W and H of its
@@ -204,9 +225,9 @@ struct greystroke_list_answer {
 
 /* Draws a list on a page, in light (R7.5). The whole list is checked before a byte of the page is
  * written. Refused, in this order: 12, 5 (under 10 bytes), 1, 2, 3, 21, 32, then record by record
- * 4, 5 and those of 7 to 11 and 31 that the kind has, last 6 (R8.2). The place is 0 for the header,
- * 12, 21 and 32; else the record's first byte; the list's length where the end is missing; the
- * first surplus byte for 6. */
+ * 4, 5 and those of 7, 8, 9, 10, 33, 11 and 31 that the kind has, last 6 (R8.2). The place is 0 for
+ * the header, 12, 21 and 32; else the record's first byte; the list's length where the end is
+ * missing; the first surplus byte for 6. */
 struct greystroke_list_answer greystroke_draw_list(
     uint8_t *page, size_t page_length, const uint16_t *lights, size_t lights_length,
     const uint8_t *list, size_t list_length);
@@ -238,8 +259,8 @@ struct greystroke_read_answer {
 };
 
 /* Reads the record at the front of some bytes, by the version, W and H of its list (R7.6).
- * Refused, in this order: 2, 3, 5 (no byte), 4, 5, then those of 7 to 11 and 31 that the kind has
- * (R8.5). */
+ * Refused, in this order: 2, 3, 5 (no byte), 4, 5, then those of 7, 8, 9, 10, 33, 11 and 31 that
+ * the kind has (R8.5). */
 struct greystroke_read_answer greystroke_read_record(
     const uint8_t *list, size_t list_length, struct greystroke_basis basis);
 
@@ -284,8 +305,9 @@ struct greystroke_write_answer greystroke_write_player(
     uint8_t *list, size_t list_length, size_t place, struct greystroke_basis basis,
     uint8_t player);
 
-/* Writes a shape. Refused, in this order: 4 where the kind is no shape, then 2, 3, 7, 9, 10, 11, 22
- * (R8.6). */
+/* Writes a shape as the kind that it has. Refused, in this order: 4 where the kind is no shape,
+ * then 2, 3, 4 of kind 8 or 9 in version 1, 7, 9, 10, 33 (also of kind 5 or 6 with a radius above
+ * 255), 11, 22 (R8.6). */
 struct greystroke_write_answer greystroke_write_shape(
     uint8_t *list, size_t list_length, size_t place, struct greystroke_basis basis,
     struct greystroke_shape shape);

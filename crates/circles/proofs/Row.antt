@@ -32,6 +32,10 @@ pub ready-after : {w h : ℕ} {ink n : ℕ → ℕ → ℕ} {l m : List ℕ} {t 
     → Ready palette view (length m) ring outer inner
 ready-after {palette = palette} {view} {ring} {outer} {inner} d = subst (λ (k : ℕ). Ready palette view k ring outer inner) (sym (drawn-length d))
 
+-- a band without its left edge
+pub band-from : {Y Z : ℕ → ℕ} {view : View} {ring : Ring} {y p q r s : ℕ} → Band Y Z view ring y p q r s → Band Y Z view ring y q q r s
+band-from b = record { row = b .row; order = (omega arith, omega arith, omega arith, omega arith, omega arith); whole = b .whole }
+
 -- a whole blend leaves the level
 pub whole-ink : {palette : List ℕ} {ring : Ring} → Inked palette ring → (u : ℕ) → inkOf (lightsIn palette) (ring .level) 512 512 u ≡ ring .level
 whole-ink {palette} {ring} k u = blend-whole (lightsIn palette) (lights-fit palette (k .palette-is)) u (ring .level) 512 (k .level-most) (omega arith)

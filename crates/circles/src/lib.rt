@@ -17,11 +17,12 @@ ghost use Rattle.shapes.specs.Limits.{shapeRefusal, radiusMost};
 ghost use Rattle.shapes.specs.declared.Shape.the-variants.{Disc as asDisc, Ring as asRing};
 ghost use Rattle.coverage.specs.Circle.{heightOf};
 ghost use Rattle.coverage.specs.Coverage.{drawnD};
+ghost use Rattle.coverage.specs.inner.Circle.{Held};
 ghost use Rattle.coverage.specs.inner.OnPage.{shapeOn};
 ghost use Rattle.lights.specs.inner.Palette.{lightsIn, Palette};
 ghost use Rattle.page.specs.inner.Ink.{inkOf};
 ghost use Rattle.page.specs.inner.Paint.{Lawful, DrawnIn};
-ghost use Rattle.circles.specs.inner.Row.{at, boxed, smallMost, Zeros, Inked, Placed, Ready, RingDrawn};
+ghost use Rattle.circles.specs.inner.Row.{at, boxed, smallMost, middleMost, largeMost, Zeros, Inked, Placed, Ready, RingDrawn};
 
 mod cover; // cover.rt: coverage by the distances from the centre
 mod mirror; // mirror.rt: rows of which the clip has both sides
@@ -38,10 +39,18 @@ pub(crate) struct Ring {
     pub m: u64,
 }
 
-// Circles up to this radius hold their heights in a short array.
+// Circles up to these radii hold their heights in shorter arrays.
 const SMALL_MOST: u64 = 32;
 
 const SMALL_HEIGHTS: usize = SMALL_MOST as usize + 2;
+
+const MIDDLE_MOST: u64 = 255;
+
+const MIDDLE_HEIGHTS: usize = MIDDLE_MOST as usize + 2;
+
+const LARGE_MOST: u64 = 511;
+
+const LARGE_HEIGHTS: usize = LARGE_MOST as usize + 2;
 
 // Whether lo to hi has all that is nearer than d to an offset c.
 pub(crate) fn encloses(lo: usize, hi: usize, c: u64, d: u64) -> bool
@@ -91,6 +100,16 @@ fn draw_held(
     rows::draw_rows(page, palette, view, ring, outer, inner)
 }
 
+// The heights of the hole; a disc has none, and zeros are those of radius 0.
+fn hole_heights(hs: &mut [u32], radius: u64)
+    requires { ⌜ (radius ≤ radiusMost) × Zeros (now hs) radius ⌝ }
+    ensures { λ r. ⌜ Held radius (now (hs .entry)) (now (hs .exit)) ⌝ }
+{
+    if 0 < radius {
+        heights(hs, radius);
+    }
+}
+
 // Works out the heights of a ring in two lent arrays of zeros and draws it, within a clip that is cut down to its box.
 fn draw_by_heights(
     page: &mut [u8],
@@ -106,11 +125,11 @@ fn draw_by_heights(
         (view .x0) (view .y0) (view .x1) (view .y1) (now (page .entry)) (now (page .exit)) t ⌝ }
 {
     heights(outer, ring.radius);
-    heights(inner, ring.hole);
+    hole_heights(inner, ring.hole);
     draw_held(page, palette, view, ring, outer, inner)
 }
 
-// A small ring takes short arrays, so that the largest radius costs it nothing.
+// A ring takes arrays of one of four sizes, so that the largest radius costs a smaller one nothing.
 fn draw_small(page: &mut [u8], palette: &[u16], view: View, ring: Ring) -> u64
     requires { ⌜ Placed (now palette) view (length (now page)) ring × (ring .hole ≤ ring .radius) × (ring .radius ≤ smallMost) ⌝ }
     ensures { λ t. ⌜ RingDrawn (inkOf (lightsIn (now (palette .entry))) (ring .level) 512) view ring (heightOf (ring .radius)) (heightOf (ring .hole))
@@ -121,8 +140,27 @@ fn draw_small(page: &mut [u8], palette: &[u16], view: View, ring: Ring) -> u64
     draw_by_heights(page, palette, view, ring, &mut outer, &mut inner)
 }
 
-// Any other takes arrays for the greatest radius.
+fn draw_middle(page: &mut [u8], palette: &[u16], view: View, ring: Ring) -> u64
+    requires { ⌜ Placed (now palette) view (length (now page)) ring × (ring .hole ≤ ring .radius) × (ring .radius ≤ middleMost) ⌝ }
+    ensures { λ t. ⌜ RingDrawn (inkOf (lightsIn (now (palette .entry))) (ring .level) 512) view ring (heightOf (ring .radius)) (heightOf (ring .hole))
+        (view .x0) (view .y0) (view .x1) (view .y1) (now (page .entry)) (now (page .exit)) t ⌝ }
+{
+    let mut outer = [0u32; MIDDLE_HEIGHTS];
+    let mut inner = [0u32; MIDDLE_HEIGHTS];
+    draw_by_heights(page, palette, view, ring, &mut outer, &mut inner)
+}
+
 fn draw_large(page: &mut [u8], palette: &[u16], view: View, ring: Ring) -> u64
+    requires { ⌜ Placed (now palette) view (length (now page)) ring × (ring .hole ≤ ring .radius) × (ring .radius ≤ largeMost) ⌝ }
+    ensures { λ t. ⌜ RingDrawn (inkOf (lightsIn (now (palette .entry))) (ring .level) 512) view ring (heightOf (ring .radius)) (heightOf (ring .hole))
+        (view .x0) (view .y0) (view .x1) (view .y1) (now (page .entry)) (now (page .exit)) t ⌝ }
+{
+    let mut outer = [0u32; LARGE_HEIGHTS];
+    let mut inner = [0u32; LARGE_HEIGHTS];
+    draw_by_heights(page, palette, view, ring, &mut outer, &mut inner)
+}
+
+fn draw_huge(page: &mut [u8], palette: &[u16], view: View, ring: Ring) -> u64
     requires { ⌜ Placed (now palette) view (length (now page)) ring × (ring .hole ≤ ring .radius) × (ring .radius ≤ radiusMost) ⌝ }
     ensures { λ t. ⌜ RingDrawn (inkOf (lightsIn (now (palette .entry))) (ring .level) 512) view ring (heightOf (ring .radius)) (heightOf (ring .hole))
         (view .x0) (view .y0) (view .x1) (view .y1) (now (page .entry)) (now (page .exit)) t ⌝ }
@@ -132,9 +170,9 @@ fn draw_large(page: &mut [u8], palette: &[u16], view: View, ring: Ring) -> u64
     draw_by_heights(page, palette, view, ring, &mut outer, &mut inner)
 }
 
-// Draws what lies between the circles of a ring.
-fn draw_between(page: &mut [u8], palette: &[u16], view: View, ring: Ring) -> u64
-    requires { ⌜ Inked (now palette) ring × Lawful view (length (now page)) × (ring .cx ≤ offsetMost) × (ring .cy ≤ offsetMost) × (ring .hole ≤ ring .radius) × (ring .radius ≤ radiusMost) ⌝ }
+// Draws what lies between the circles of a ring up to the middle radius.
+fn draw_lesser(page: &mut [u8], palette: &[u16], view: View, ring: Ring) -> u64
+    requires { ⌜ Inked (now palette) ring × Lawful view (length (now page)) × (ring .cx ≤ offsetMost) × (ring .cy ≤ offsetMost) × (ring .hole ≤ ring .radius) × (ring .radius ≤ middleMost) ⌝ }
     ensures { λ t. ⌜ RingDrawn (inkOf (lightsIn (now (palette .entry))) (ring .level) 512) view ring (heightOf (ring .radius)) (heightOf (ring .hole))
         (view .x0) (view .y0) (view .x1) (view .y1) (now (page .entry)) (now (page .exit)) t ⌝ }
 {
@@ -148,7 +186,26 @@ fn draw_between(page: &mut [u8], palette: &[u16], view: View, ring: Ring) -> u64
     if ring.radius <= SMALL_MOST {
         return draw_small(page, palette, part, ring);
     }
-    draw_large(page, palette, part, ring)
+    draw_middle(page, palette, part, ring)
+}
+
+// The same of a larger one. It stands apart, because its arrays would grow the stack frame of the smaller ones.
+fn draw_greater(page: &mut [u8], palette: &[u16], view: View, ring: Ring) -> u64
+    requires { ⌜ Inked (now palette) ring × Lawful view (length (now page)) × (ring .cx ≤ offsetMost) × (ring .cy ≤ offsetMost) × (ring .hole ≤ ring .radius) × (ring .radius ≤ radiusMost) ⌝ }
+    ensures { λ t. ⌜ RingDrawn (inkOf (lightsIn (now (palette .entry))) (ring .level) 512) view ring (heightOf (ring .radius)) (heightOf (ring .hole))
+        (view .x0) (view .y0) (view .x1) (view .y1) (now (page .entry)) (now (page .exit)) t ⌝ }
+{
+    let part = box_of(view, ring);
+    if part.x1 <= part.x0 {
+        return 0;
+    }
+    if part.y1 <= part.y0 {
+        return 0;
+    }
+    if ring.radius <= LARGE_MOST {
+        return draw_large(page, palette, part, ring);
+    }
+    draw_huge(page, palette, part, ring)
 }
 
 // Draws a disc within the view's clip; hands back how many pixels it touched.
@@ -165,7 +222,10 @@ pub fn draw_disc(page: &mut [u8], palette: &[u16], view: View, disc: shapes::Dis
         level,
         m: lights::scale_of(palette, 512),
     };
-    draw_between(page, palette, view, ring)
+    if ring.radius <= MIDDLE_MOST {
+        return draw_lesser(page, palette, view, ring);
+    }
+    draw_greater(page, palette, view, ring)
 }
 
 // Draws a ring within the view's clip; hands back how many pixels it touched.
@@ -182,5 +242,8 @@ pub fn draw_ring(page: &mut [u8], palette: &[u16], view: View, ring: shapes::Rin
         level,
         m: lights::scale_of(palette, 512),
     };
-    draw_between(page, palette, view, between)
+    if between.radius <= MIDDLE_MOST {
+        return draw_lesser(page, palette, view, between);
+    }
+    draw_greater(page, palette, view, between)
 }

@@ -160,6 +160,54 @@ fn draw_edge(
     blend_edge(&mut page[a..e], palette, ring, outer, inner, from, b)
 }
 
+// Draws columns p to q of row y. An edge that the clip leaves out, as most of a large ring are, costs a test.
+fn draw_left(
+    page: &mut [u8],
+    palette: &[u16],
+    view: View,
+    ring: Ring,
+    outer: &[u32],
+    inner: &[u32],
+    y: usize,
+    p: usize,
+    q: usize,
+) -> u64
+    requires { ⌜ Ready (now palette) view (length (now page)) ring (now outer) (now inner) ⌝ }
+    requires { ⌜ (view .y0 ≤ y) × (y < view .y1) × (view .x0 ≤ p) × (p ≤ q) × (q ≤ view .x1) ⌝ }
+    ensures { λ t. ⌜ RingDrawn (inkOf (lightsIn (now (palette .entry))) (ring .level) 512) view ring (at (now (outer .entry))) (at (now (inner .entry)))
+        p y q (y + 1) (now (page .entry)) (now (page .exit)) t ⌝ }
+{
+    if q <= p {
+        return 0;
+    }
+    draw_edge(page, palette, view, ring, outer, inner, y, p, q)
+}
+
+// Draws columns q to s of row y, of which q to r are whole.
+fn draw_right(
+    page: &mut [u8],
+    palette: &[u16],
+    view: View,
+    ring: Ring,
+    outer: &[u32],
+    inner: &[u32],
+    y: usize,
+    q: usize,
+    r: usize,
+    s: usize,
+) -> u64
+    requires { ⌜ Ready (now palette) view (length (now page)) ring (now outer) (now inner) ⌝ }
+    requires { ⌜ Band (at (now outer)) (at (now inner)) view ring y q q r s ⌝ }
+    ensures { λ t. ⌜ RingDrawn (inkOf (lightsIn (now (palette .entry))) (ring .level) 512) view ring (at (now (outer .entry))) (at (now (inner .entry)))
+        q y s (y + 1) (now (page .entry)) (now (page .exit)) t ⌝ }
+{
+    let whole = page::fill_row(page, view, ring.level, y, q, r);
+    if s <= r {
+        return whole;
+    }
+    whole + draw_edge(page, palette, view, ring, outer, inner, y, r, s)
+}
+
 // Draws columns p to s of row y, of which q to r are whole.
 fn draw_band(
     page: &mut [u8],
@@ -179,10 +227,8 @@ fn draw_band(
     ensures { λ t. ⌜ RingDrawn (inkOf (lightsIn (now (palette .entry))) (ring .level) 512) view ring (at (now (outer .entry))) (at (now (inner .entry)))
         p y s (y + 1) (now (page .entry)) (now (page .exit)) t ⌝ }
 {
-    let left = draw_edge(page, palette, view, ring, outer, inner, y, p, q);
-    let whole = page::fill_row(page, view, ring.level, y, q, r);
-    let right = draw_edge(page, palette, view, ring, outer, inner, y, r, s);
-    left + whole + right
+    let left = draw_left(page, palette, view, ring, outer, inner, y, p, q);
+    left + draw_right(page, palette, view, ring, outer, inner, y, q, r, s)
 }
 
 // Draws the columns of the clip in row y: one band, or a band on each side of the hole where the row meets the inner circle.

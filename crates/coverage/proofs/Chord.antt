@@ -82,12 +82,12 @@ ring-le R w cx cy x y = omega (arith, ring-whole R w cx cy x y, disc-le R cx cy 
 
 -- what a query answers, by the offsets
 module _ {x y : ℤ} (px : InRange x) (py : InRange y) where
-  pub disc-drawn : (d : Disc) → LawfulCircle (d .x) (d .y) (d .radius)
+  pub disc-drawn : {m : ℕ} (d : Disc) → LawfulCircle m (d .x) (d .y) (d .radius)
       → chords (heightOf (d .radius)) (apart (offsetOf (d .x)) (offsetOf x)) (apart (offsetOf (d .y)) (offsetOf y)) ≡ drawnN (disc d) x y
   unfolding rulesOf
   disc-drawn d w = sym (disc-offset (w .x-in) (w .y-in) px py (d .radius))
 
-  pub ring-drawn : (g : Ring) → LawfulRing g
+  pub ring-drawn : {m : ℕ} (g : Ring) → LawfulRing m g
       → chords (heightOf (g .radius)) (apart (offsetOf (g .x)) (offsetOf x)) (apart (offsetOf (g .y)) (offsetOf y))
       - chords (heightOf (g .radius - g .width)) (apart (offsetOf (g .x)) (offsetOf x)) (apart (offsetOf (g .y)) (offsetOf y))
       ≡ drawnN (ring g) x y

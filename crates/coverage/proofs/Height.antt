@@ -78,6 +78,14 @@ half-root-next t m h k = sym (half-root-from t m (t - 1) (omega arith) (rw (odd 
 pub half-root-here : (t m : ℕ) → (2 * t - 1) * (2 * t - 1) ≤ m → halfRoot t m ≡ t
 half-root-here t m h = omega (arith, half-root-most t m t (omega arith) h, half-root-le t m)
 
+-- a number whose odd squares m lies between
+pub half-root-is : (b m u : ℕ) → m < (2 * b + 1) * (2 * b + 1) → (2 * u + 1) * (2 * u + 1) ≤ m → m < (2 * u + 3) * (2 * u + 3) → halfRoot b m ≡ u + 1
+half-root-is b m u top low high =
+    let under = ⊎-elim (λ h. h) (λ h. absurd (omega (arith, square-le {a = 2 * b + 1} {b = 2 * u + 1} (omega arith)))) (lt-or-le u b) in
+    let below : 2 * (u + 1) - 1 ≡ 2 * u + 1 = omega arith in
+    let above : 2 * (u + 1) + 1 ≡ 2 * u + 3 = omega arith in
+    half-root-from b m (u + 1) (omega arith) (rw above high) ∙ half-root-here (u + 1) m (rw below low)
+
 -- ---- heights
 
 -- 256·R is above every height of the circle

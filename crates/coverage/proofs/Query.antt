@@ -11,7 +11,7 @@ use mir.Val.{SFits, toZ, ofZ}
 use mir.Facts.{toZ-ofZ}
 use Rattle.numbers.specs.inner.Offset.{offsetMost}
 use Rattle.numbers.specs.Coordinate.{inRange}
-use Rattle.shapes.specs.Limits.{first, outside, offRange, refusalsOf, shapeRefusal}
+use Rattle.shapes.specs.Limits.{first, outside, offRange, refusalsOf, radiusMost, refusalWithin, shapeRefusal}
 use Rattle.shapes.specs.inner.Offsets.{pointOf}
 use Rattle.shapes.specs.declared.Point.{Point}
 use Rattle.shapes.specs.declared.Shape.{Shape}
@@ -26,8 +26,8 @@ either false = refl
 
 -- the pixel is tried between a shape's 7 and its other refusals
 query-refusals : (s : Shape) (x y : ℤ) → queryRefusal s x y ≡ cond (eqb (shapeRefusal s) 7) 7 (cond (outside x || outside y) 7 (shapeRefusal s))
-unfolding queryRefusal shapeRefusal
-query-refusals s x y = go (offRange s) (outside x || outside y) (first (refusalsOf s))
+unfolding queryRefusal refusalWithin
+query-refusals s x y = go (offRange s) (outside x || outside y) (first (refusalsOf radiusMost s))
   where
     same : (n : ℕ) (t : Bool) → eqb n 7 ≡ t → n ≡ cond t 7 n
     same n true e = eqb-true n 7 e

@@ -1,7 +1,7 @@
--- The starred reference strokes, from the definitions, as rows under one theorem.
+-- The starred reference strokes, from the definitions, as rows under one theorem, and heights that are rounded to a row line.
 use mathlib.Core.Path.{_≡_, refl}
 use mathlib.Core.Bool.{Bool, true, false}
-use Prim.Native.Nat.{ℕ, _+_, _-_, _*_}
+use Prim.Native.Nat.{ℕ, _+_, _-_, _*_, _<_}
 use lib.Dec.{T, leb, ltb, lit<, lit≤}
 use lib.IntN.{ℤ, pos, negsuc}
 use Rattle.shapes.specs.declared.Shape.the-variants.{Line as line, Disc as disc}
@@ -22,7 +22,7 @@ Line e x1 y1 x y n d =
 -- a disc of radius R at (0, 0) has n over 512 at (x, y)
 abbrev Disc : ℕ → ℤ → ℤ → ℕ → Type 0
 Disc R x y n =
-    let s = disc (record { x = pos 0; y = pos 0; radius = R }) in
+    let s = disc (record { x = pos 0; y = pos 0; radius = R; big = false }) in
     _≡_ {A = ℕ × ℕ} (drawnN s x y, drawnD s) (n, 512)
 
 -- the heights that those rows use
@@ -76,4 +76,24 @@ strokes = (
   rw (height 2 0 512 tt tt tt, height 2 1 443 tt tt tt),
   rw (height 2 1 443 tt tt tt, height-beyond 2 2 (lit≤ tt)),
   rw (height 5 3 1024 tt tt tt, height 5 4 768 tt tt tt),
+)
+
+-- Above radius 256 the chord rule and the true circle may differ on which row lines are reached.
+-- 257² − 1² is below 257², so over line 1 the circle does not reach row line 257; the height does, and the pixel below it is whole.
+-- 273² − 52² is 268² + 1, so over line 52 the circle passes row line 268; the height is that line, and the pixel above it has nothing
+pub row-lines :
+    (257 * 257 - 1 * 1 < 257 * 257)
+    × (heightOf 257 1 ≡ 256 * 257)
+    × Disc 257 (pos 0) (pos 256) 512
+    × (268 * 268 < 273 * 273 - 52 * 52)
+    × (heightOf 273 52 ≡ 256 * 268)
+    × Disc 273 (pos 52) (pos 268) 0
+unfolding folded chord chords discCover rulesOf
+row-lines = (
+  lit< tt,
+  height 257 1 65792 tt tt tt,
+  rw (height 257 0 65792 tt tt tt, height 257 1 65792 tt tt tt),
+  lit< tt,
+  height 273 52 68608 tt tt tt,
+  rw (height 273 52 68608 tt tt tt, height 273 53 68558 tt tt tt),
 )

@@ -8,7 +8,7 @@ use Rattle.numbers.specs.Fraction.{Frac, _over_}
 use Rattle.shapes.specs.declared.Line.{Line}
 use Rattle.shapes.specs.declared.Shape.{Shape}
 use Rattle.shapes.specs.declared.Shape.the-variants.{Line as line, Disc as disc, Ring as ring}
-use Rattle.shapes.specs.Limits.{first, outside, offRange, refusalsOf}
+use Rattle.shapes.specs.Limits.{first, outside, offRange, refusalsOf, radiusMost}
 use Rattle.coverage.specs.Line.{exactRow, exactWhole, approxRow, approxWhole}
 use Rattle.shapes.specs.Span.{longer, shorter}
 use Rattle.coverage.specs.Frame.{columnOf, frameRow}
@@ -73,7 +73,7 @@ drawnD s = rulesOf s .drawn .whole
 
 -- a query is tried 7 (shape, then pixel), then as the shape is
 unfoldable pub queryRefusal : Shape → ℤ → ℤ → ℕ
-queryRefusal s x y = first ((offRange s, 7) ∷ (outside x || outside y, 7) ∷ refusalsOf s)
+queryRefusal s x y = first ((offRange s, 7) ∷ (outside x || outside y, 7) ∷ refusalsOf radiusMost s)
 
 -- n and d, unreduced, of the rule that the shape is drawn with
 abbrev pub ratioOf : Shape → ℤ → ℤ → Ratio

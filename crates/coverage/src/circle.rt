@@ -7,14 +7,15 @@ ghost use Rattle.numbers.specs.Coordinate.{inRange};
 ghost use Rattle.numbers.specs.inner.Offset.{offsetMost};
 ghost use Rattle.shapes.specs.Limits.{shapeRefusal, radiusMost};
 ghost use Rattle.shapes.specs.declared.Shape.the-variants.{Disc as asDisc, Ring as asRing};
-ghost use mathlib.Core.Bool.{true};
+ghost use mathlib.Core.Bool.{true, _&&_};
+ghost use lib.Dec.{leb, ltb};
 ghost use Rattle.coverage.specs.Circle.{halfRoot, heightOf, chords};
-ghost use Rattle.coverage.specs.inner.Circle.{apart, Held, Narrowed};
+ghost use Rattle.coverage.specs.inner.Circle.{heightMost, apart, Held, Narrowed};
 ghost use Rattle.coverage.specs.Coverage.{ratioOf};
 
 // The whole number nearest to half the square root of m, searched downwards from y.
 fn half_root(y: u64, m: u64) -> u64
-    requires { ⌜ y ≤ 65536 ⌝ }
+    requires { ⌜ y ≤ heightMost ⌝ }
     ensures { λ r. ⌜ r ≡ halfRoot y m ⌝ }
 {
     let mut t = y;
@@ -30,21 +31,77 @@ fn half_root(y: u64, m: u64) -> u64
 
 // t, brought down to near the root of quarter by one turn of Newton's rule, rounded.
 fn nearer(t: u64, quarter: u64) -> u64
-    requires { ⌜ t ≤ 65536 ⌝ }
+    requires { ⌜ t ≤ heightMost ⌝ }
     ensures { λ r. ⌜ r ≤ t ⌝ }
 {
     t - less(t * t + t, quarter) / (2 * t + 1)
 }
 
-// Where the search for the next height starts: at y less the last step, which is not too low since heights fall faster and faster,
-// brought nearer. Any start would do that is not too low: it is tested, and y, above every later height, stands in for one that is.
-fn search_start(y: u64, step: u64, m: u64) -> u64
-    requires { ⌜ (y ≤ 65536) × (m < (2 * y + 1) * (2 * y + 1)) ⌝ }
-    ensures { λ r. ⌜ (r ≤ y) × (m < (2 * r + 1) * (2 * r + 1)) ⌝ }
+// Half the root of m, searched downwards from y less the last step, which is not too low since heights fall faster and faster, brought
+// nearer. Any start would do that is not too low: it is tested, and y, above every later height, stands in for one that is.
+fn searched(y: u64, step: u64, m: u64) -> u64
+    requires { ⌜ (y ≤ heightMost) × (m < (2 * y + 1) * (2 * y + 1)) ⌝ }
+    ensures { λ r. ⌜ r ≡ halfRoot y m ⌝ }
 {
     let t = nearer(less(y, step), m / 4);
     let odd = 2 * t + 1;
-    if m < odd * odd { t } else { y }
+    if m < odd * odd {
+        return half_root(t, m);
+    }
+    half_root(y, m)
+}
+
+// 1 where half the root of m is u or less, else 0: a sum of such needs no branch.
+fn passed(u: u64, m: u64) -> u64
+    requires { ⌜ u ≤ heightMost ⌝ }
+    ensures { λ r. ⌜ r ≤ 1 ⌝ }
+{
+    let odd = 2 * u + 1;
+    if m < odd * odd { 1 } else { 0 }
+}
+
+// One less than the height behind y, by the last step: where heights fall steadily, the next step is 1 shorter, the same, or 1 or 2 longer.
+// Any number would do: it is tested.
+fn guess(y: u64, step: u64, m: u64) -> u64
+    requires { ⌜ y ≤ heightMost ⌝ }
+    ensures { λ r. ⌜ r ≤ y ⌝ }
+{
+    if y < step {
+        return 0;
+    }
+    let u = y - step;
+    if u < 3 {
+        return u;
+    }
+    u - (passed(u, m) + passed(u - 1, m) + passed(u - 2, m))
+}
+
+// Whether u + 1 is half the root of m.
+fn is_next(u: u64, m: u64) -> bool
+    requires { ⌜ u ≤ heightMost ⌝ }
+    ensures { λ r. ⌜ r ≡ (leb ((2 * u + 1) * (2 * u + 1)) m && ltb m ((2 * u + 3) * (2 * u + 3))) ⌝ }
+{
+    let odd = 2 * u + 1;
+    let next = 2 * u + 3;
+    odd * odd <= m && m < next * next
+}
+
+// Circles up to this radius have heights that fall too fast for a guess by the last step.
+const STEEP_MOST: u64 = 64;
+
+// The height behind y, half the root of m: guessed, and searched for where the guess fails.
+fn next_height(radius: u64, y: u64, step: u64, m: u64) -> u64
+    requires { ⌜ (y ≤ heightMost) × (m < (2 * y + 1) * (2 * y + 1)) ⌝ }
+    ensures { λ r. ⌜ r ≡ halfRoot y m ⌝ }
+{
+    if radius <= STEEP_MOST {
+        return searched(y, step, m);
+    }
+    let u = guess(y, step, m);
+    if is_next(u, m) {
+        return u + 1;
+    }
+    searched(y, step, m)
 }
 
 // The greatest radius.
@@ -60,14 +117,15 @@ pub fn heights(hs: &mut [u32], radius: u64)
 {
     let mut y = 256 * radius;
     let mut step: u64 = 0;
-    let mut k: u64 = 0;
-    while k < radius {
+    let mut left = radius;
+    while 0 < left {
+        let k = radius - left;
         let m = 262144 * (radius * radius - k * k);
-        let next = half_root(search_start(y, step, m), m);
+        let next = next_height(radius, y, step, m);
         hs[k as usize] = next as u32;
         step = y - next;
         y = next;
-        k += 1;
+        left -= 1;
     }
 }
 
@@ -79,7 +137,7 @@ struct Bracket {
 
 // Half of a bracket, the one with the root.
 fn halved(low: u64, high: u64, m: u64) -> Bracket
-    requires { ⌜ (low + 1 < high) × (high ≤ 65537) ⌝ }
+    requires { ⌜ (low + 1 < high) × (high ≤ heightMost + 1) ⌝ }
     ensures { λ r. ⌜ Narrowed low high m (r .low) (r .high) ⌝ }
 {
     let middle = (low + high) / 2;

@@ -16,11 +16,11 @@ pub enum Answer {
     Refused(u8),
 }
 
-// The first refusal of a query: 7 of the shape, 7 of the pixel, then 9, 10 and 11; or 0.
+// The first refusal of a query: 7 of the shape, 7 of the pixel, then 9, 10, 33 and 11; or 0.
 fn query_refusal(shape: shapes::Shape, x: i16, y: i16) -> u8
     ensures { λ r. ⌜ r ≡ queryRefusal shape x y ⌝ }
 {
-    let refusal = shapes::shape_refusal(shape);
+    let refusal = shapes::shape_refusal(shape, shapes::RADIUS_MOST);
     if refusal == 7 {
         return 7;
     }

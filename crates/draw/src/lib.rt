@@ -135,7 +135,7 @@ pub fn draw_disc(
     ensures { λ r. ⌜ now (page .exit) ≡ shapePage w h (now (lights .entry)) clip level (Shape.Disc disc) (now (page .entry)) ⌝ }
 {
     let lights_kind = kind_of(lights);
-    let own = shapes::disc_refusal(disc);
+    let own = shapes::disc_refusal(disc, shapes::RADIUS_MOST);
     let refusal = draw_refusal(w, h, page.len(), lights_kind, clip, own);
     if 0 < refusal {
         return Outcome::Refused(refusal);
@@ -160,7 +160,7 @@ pub fn draw_ring(
     ensures { λ r. ⌜ now (page .exit) ≡ shapePage w h (now (lights .entry)) clip level (Shape.Ring ring) (now (page .entry)) ⌝ }
 {
     let lights_kind = kind_of(lights);
-    let own = shapes::ring_refusal(ring);
+    let own = shapes::ring_refusal(ring, shapes::RADIUS_MOST);
     let refusal = draw_refusal(w, h, page.len(), lights_kind, clip, own);
     if 0 < refusal {
         return Outcome::Refused(refusal);

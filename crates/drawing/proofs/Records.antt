@@ -10,7 +10,7 @@ use Rattle路numbers.specs.Sum.{total}
 use Rattle路numbers.proofs.Order.{cond-le}
 use Rattle路numbers.proofs.Sum.{total-++}
 use Rattle路shapes.specs.Limits.{shapeRefusal, recordRefusal}
-use Rattle路shapes.proofs.Limits.{basis-size}
+use Rattle路shapes.proofs.Limits.{basis-size, record-shape}
 use Rattle路shapes.specs.declared.Shape.{Shape}
 use Rattle路shapes.specs.declared.Setting.the-variants.{Clip as clip, Level as level, Player as player}
 use Rattle路shapes.specs.declared.Basis.{Basis}
@@ -54,7 +54,7 @@ pub lawful-then : (b : Basis) (f : Settings) (r : Record) (ds : List Drawing) 鈫
 unfolding recordRefusal drawingOf AllLawful
 lawful-then b f end ds z k i a = a
 lawful-then b f (setting g) ds z k i a = a
-lawful-then b f (shape s) ds z k i a = (k, i, z, a)
+lawful-then b f (shape s) ds z k i a = (k, i, record-shape s z, a)
 
 -- ---- the walk
 

@@ -9,7 +9,7 @@ use lib.IntN.{ℤ, pos, negsuc, natAbs}
 use lib.Signed.{ltZ, nonNeg}
 use mir.Syntax.{w16}
 use mir.Val.{SFits}
-use Rattle.greystroke.specs.Taken.{coordinateOf, unsignedOf, measureOf}
+use Rattle.greystroke.specs.Taken.{coordinateOf, edgeOf, measureOf}
 
 -- a coordinate
 module _ (z : ℤ) (below : ltZ z (negsuc 32767) ≡ false) (above : ltZ (pos 32767) z ≡ false) where
@@ -30,7 +30,7 @@ unfolding measureOf
 negative (pos n) e = absurd (omega (arith, ltb-true n 0 e))
 negative (negsuc n) e = refl
 
-pub positive : (z : ℤ) → ltZ z (pos 0) ≡ false → T (nonNeg z) × (unsignedOf (natAbs z) ≡ measureOf z)
+pub positive : (z : ℤ) → ltZ z (pos 0) ≡ false → T (nonNeg z) × (edgeOf (natAbs z) ≡ measureOf z)
 unfolding measureOf
 positive (pos n) e = (tt, refl)
 positive (negsuc n) e = absurd (let q : _≡_ {A = ℕ} 0 1 = cc in omega arith)

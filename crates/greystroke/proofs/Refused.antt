@@ -2,13 +2,13 @@
 use mathlib.Core.Path.{_≡_, refl, sym, _∙_, ap, ap₂}
 use mathlib.Core.Bool.{Bool, true, false, not, cond, _&&_, _||_}
 use mathlib.Core.Logic.{⊎-elim}
-use Prim.Native.Nat.{ℕ, min, _≤_, _<_}
+use Prim.Native.Nat.{ℕ, zero, suc, min, _≤_, _<_}
 use native.Mathlib.Omega.{arith}
-use borrow.Author.Tests.{lt-ltb, le-ltb, lt-leb, ltb-false}
-use lib.Dec.{ltb, leb}
+use borrow.Author.Tests.{lt-ltb, le-ltb, lt-leb, ltb-false, ne-eqb}
+use lib.Dec.{ltb, leb, eqb}
 use lib.IntN.{ℤ, pos, negsuc}
 use Rattle.numbers.proofs.Order.{lt-or-le}
-use Rattle.shapes.specs.Limits.{first, offSize, outside, offRange, offPage, offRadius, refusalsOf, basisBy, sizeRefusal, basisRefusal, clipRefusal, shapeRefusal}
+use Rattle.shapes.specs.Limits.{first, offSize, outside, offRange, offPage, refusalsOf, radiusMost, basisBy, sizeRefusal, basisRefusal, clipRefusal, refusalWithin, shapeRefusal}
 use Rattle.shapes.specs.declared.Shape.{Shape}
 use Rattle.shapes.specs.declared.Shape.the-variants.{Line as line, Disc as disc, Ring as ring}
 use Rattle.shapes.proofs.Limits.{or-clear}
@@ -37,7 +37,7 @@ inunsigned-same (negsuc n) e = ⊎-elim far (λ h. rw (le-ltb 32767 n h)) (lt-or
         let f = rw (lt-leb n 4095 (omega (arith, h))) at e in
         absurd (let q : _≡_ {A = ℕ} 0 1 = cc f in omega arith)
 
--- 2, 3, 10, 11: a version, W or H, a radius and a width, with the greatest that is lawful
+-- 2, 3: a version, W or H, with the greatest that is lawful
 pub unsigned-refused : (most n : ℕ) → most ≤ 65535 → (ltb (unsignedOf n) 1 || ltb most (unsignedOf n)) ≡ (ltb n 1 || ltb most n)
 unfolding unsignedOf
 unsigned-refused most n k =
@@ -46,17 +46,30 @@ unsigned-refused most n k =
     (λ h. rw (le-ltb 65535 n h))
     (lt-or-le 65535 n)
 
-unsigned-same : (n : ℕ) → n ≤ 65535 → unsignedOf n ≡ n
-unfolding unsignedOf
-unsigned-same n h = rw (le-ltb 65535 n h)
+-- 10, 33, 11: a radius or a width that is 0, and one that is above the greatest that is lawful; a negative one is refused as 0 is
+pub measure-none : (n : ℕ) → eqb (measureOf (pos n)) 0 ≡ eqb n 0
+unfolding measureOf edgeOf
+measure-none zero = refl
+measure-none (suc n) = rw (ne-eqb (suc n) 0 (λ e. omega arith)) (ne-eqb (min (suc n) 65535) 0 (λ e. omega arith))
 
-pub measure-refused : (most n : ℕ) → most ≤ 65535 → (ltb (measureOf (pos n)) 1 || ltb most (measureOf (pos n))) ≡ (ltb n 1 || ltb most n)
-unfolding measureOf
-measure-refused most n k = unsigned-refused most n k
+measure-least : (n : ℕ) → ltb (measureOf (pos n)) 1 ≡ ltb n 1
+unfolding measureOf edgeOf
+measure-least zero = refl
+measure-least (suc n) = rw (le-ltb (suc n) 1 (omega arith)) (le-ltb (min (suc n) 65535) 1 (omega arith))
 
-pub negative-refused : (most n : ℕ) → (ltb (measureOf (negsuc n)) 1 || ltb most (measureOf (negsuc n))) ≡ true
+pub measure-under : (m n : ℕ) → m < 65535 → ltb m (measureOf (pos n)) ≡ ltb m n
+unfolding measureOf edgeOf
+measure-under m n h =
+    ⊎-elim (λ g. rw (lt-ltb m n g) (lt-ltb m (min n 65535) (omega (arith, g, h)))) (λ g. rw (le-ltb m n g) (le-ltb m (min n 65535) (omega (arith, g)))) (lt-or-le m n)
+
+pub negative-none : (n : ℕ) → measureOf (negsuc n) ≡ 0
 unfolding measureOf
-negative-refused most n = refl
+negative-none n = refl
+
+-- a radius that passed its test is the one that was given
+measure-same : (m n : ℕ) → m < 65535 → ltb m n ≡ false → measureOf (pos n) ≡ n
+unfolding measureOf edgeOf
+measure-same m n h e = omega (arith, h, ltb-false m n e)
 
 neither : (p q : Bool) → (p && false) ≡ (q && false)
 neither true true = refl
@@ -97,35 +110,39 @@ module _ (exact : Bool) (a b c d : ℤ) where
   given = line (record { exact = exact; x0 = a; y0 = b; x1 = c; y1 = d })
 
   pub line-refused : shapeRefusal taken ≡ shapeRefusal given
-  unfolding shapeRefusal offRange refusalsOf
+  unfolding refusalWithin offRange refusalsOf
   line-refused =
       let range : offRange taken ≡ offRange given = rw (coordinate-refused a, coordinate-refused b, coordinate-refused c, coordinate-refused d) in
-      told 7 (offRange taken) (offRange given) (first (refusalsOf taken)) (first (refusalsOf given)) range (λ e.
+      told 7 (offRange taken) (offRange given) (first (refusalsOf radiusMost taken)) (first (refusalsOf radiusMost given)) range (λ e.
       let p = or-clear (outside a || outside b || outside c) (outside d) e in
       let q = or-clear (outside a || outside b) (outside c) (p .0) in
       let r = or-clear (outside a) (outside b) (q .0) in
       rw (inunsigned-same a (r .0), inunsigned-same b (r .1), inunsigned-same c (q .1), inunsigned-same d (p .1)))
 
-pub disc-refused : (x y : ℤ) (n : ℕ)
-    → shapeRefusal (disc (record { x = coordinateOf x; y = coordinateOf y; radius = measureOf (pos n) }))
-    ≡ shapeRefusal (disc (record { x = x; y = y; radius = n }))
-unfolding shapeRefusal offRange refusalsOf
-disc-refused x y n = rw (coordinate-refused x, coordinate-refused y, measure-refused 255 n (omega arith))
+-- in a call and in a record, whichever radius is the greatest
+module _ (m : ℕ) (h : m < 65535) (x y : ℤ) (n : ℕ) (big : Bool) where
+  pub disc-refused :
+      refusalWithin m (disc (record { x = coordinateOf x; y = coordinateOf y; radius = measureOf (pos n); big = big }))
+      ≡ refusalWithin m (disc (record { x = x; y = y; radius = n; big = big }))
+  unfolding refusalWithin offRange refusalsOf
+  disc-refused = rw (coordinate-refused x, coordinate-refused y, measure-none n, measure-under m n h)
 
--- 11 of a ring
-abbrev widthTold : ℕ → ℕ → ℕ
-widthTold r w = cond (ltb w 1 || ltb r w) 11 0
+  -- 11 of a ring
+  abbrev widthTold : ℕ → ℕ → ℕ
+  widthTold r w = cond (ltb w 1 || ltb r w) 11 0
 
-pub ring-refused : (x y : ℤ) (n m : ℕ)
-    → shapeRefusal (ring (record { x = coordinateOf x; y = coordinateOf y; radius = measureOf (pos n); width = measureOf (pos m) }))
-    ≡ shapeRefusal (ring (record { x = x; y = y; radius = n; width = m }))
-unfolding shapeRefusal offRange refusalsOf measureOf
-ring-refused x y n m =
-    rw (coordinate-refused x, coordinate-refused y)
-    (ap (λ (k : ℕ). cond (outside x || outside y) 7 k)
-    (told 10 (offRadius (unsignedOf n)) (offRadius n) (widthTold (unsignedOf n) (unsignedOf m)) (widthTold n m) (unsigned-refused 255 n (omega arith)) (λ e.
-    let h = ltb-false 255 n (or-clear (ltb n 1) (ltb 255 n) e .1) in
-    rw (unsigned-same n (omega (arith, h)), unsigned-refused n m (omega (arith, h))))))
+  width-refused : (w : ℕ) → ltb m n ≡ false → widthTold (measureOf (pos n)) (measureOf (pos w)) ≡ widthTold n w
+  width-refused w e =
+      rw (measure-same m n h e, measure-least w, measure-under n w (omega (arith, h, ltb-false m n e)))
+
+  pub ring-refused : (w : ℕ)
+      → refusalWithin m (ring (record { x = coordinateOf x; y = coordinateOf y; radius = measureOf (pos n); width = measureOf (pos w); big = big }))
+      ≡ refusalWithin m (ring (record { x = x; y = y; radius = n; width = w; big = big }))
+  unfolding refusalWithin offRange refusalsOf
+  ring-refused w =
+      rw (coordinate-refused x, coordinate-refused y, measure-none n)
+      (ap (λ (k : ℕ). cond (outside x || outside y) 7 (cond (eqb n 0) 10 k))
+      (told 33 (ltb m (measureOf (pos n))) (ltb m n) (widthTold (measureOf (pos n)) (measureOf (pos w))) (widthTold n w) (measure-under m n h) (width-refused w)))
 
 -- ---- bases and clips
 

@@ -23,18 +23,18 @@ use Rattle.greystroke.specs.declared.taken.Taken.the-variants.{Known, Un
 unfoldable pub coordinateOf : ℤ → ℤ
 coordinateOf z = cond (ltZ z (negsuc 32767) || ltZ (pos 32767) z) (pos 32767) z
 
--- an unsigned number: a version, W, H, a radius or a ring's width; 0 is refused by 2, 3, 10 and 11
+-- a version, W or H; 0 is refused by 2 and 3
 unfoldable pub unsignedOf : ℕ → ℕ
 unsignedOf n = cond (ltb 65535 n) 0 n
-
--- a radius or a ring's width, which C gives with a sign; a negative one becomes 0
-unfoldable pub measureOf : ℤ → ℕ
-measureOf (pos n) = unsignedOf n
-measureOf (negsuc n) = 0
 
 -- a number of a clip; 65,535 is refused by 8
 unfoldable pub edgeOf : ℕ → ℕ
 edgeOf n = min n 65535
+
+-- a radius or a ring's width, which C gives with a sign; 65,535 is refused by 33 and 11, and a negative number becomes 0, refused by 10 and 11
+unfoldable pub measureOf : ℤ → ℕ
+measureOf (pos n) = edgeOf n
+measureOf (negsuc n) = 0
 
 -- a version, W and H as the library takes them, and back in the form that C takes
 abbrev pub basisTaken : GivenBasis → Basis
@@ -60,19 +60,22 @@ givenMeasure ns i = measureOf (givenNumber ns i)
 abbrev pub lineOf : Bool → List ℤ → Line
 lineOf exact ns = record { exact = exact; x0 = givenCoordinate ns 0; y0 = givenCoordinate ns 1; x1 = givenCoordinate ns 2; y1 = givenCoordinate ns 3 }
 
-abbrev pub discOf : List ℤ → Disc
-discOf ns = record { x = givenCoordinate ns 0; y = givenCoordinate ns 1; radius = givenMeasure ns 2 }
+abbrev pub discOf : Bool → List ℤ → Disc
+discOf big ns = record { x = givenCoordinate ns 0; y = givenCoordinate ns 1; radius = givenMeasure ns 2; big = big }
 
-abbrev pub ringOf : List ℤ → Ring
-ringOf ns = record { x = givenCoordinate ns 0; y = givenCoordinate ns 1; radius = givenMeasure ns 2; width = givenMeasure ns 3 }
+abbrev pub ringOf : Bool → List ℤ → Ring
+ringOf big ns =
+    record { x = givenCoordinate ns 0; y = givenCoordinate ns 1; radius = givenMeasure ns 2; width = givenMeasure ns 3; big = big }
 
 -- the shape of a kind by its numbers; a number of no kind is unknown
 abbrev pub takenBy : ℕ → List ℤ → Taken
 takenBy k ns =
     cond (eqb k 3) (Known (line (lineOf true ns)))
     (cond (eqb k 4) (Known (line (lineOf false ns)))
-    (cond (eqb k 5) (Known (disc (discOf ns)))
-    (cond (eqb k 6) (Known (ring (ringOf ns))) Unknown)))
+    (cond (eqb k 5) (Known (disc (discOf false ns)))
+    (cond (eqb k 6) (Known (ring (ringOf false ns)))
+    (cond (eqb k 8) (Known (disc (discOf true ns)))
+    (cond (eqb k 9) (Known (ring (ringOf true ns))) Unknown)))))
 
 unfoldable pub takenOf : GivenShape → Taken
 takenOf s = takenBy (s .kind) (s .numbers)

@@ -5,8 +5,10 @@ use crate::taken::basis_of;
 use lists::check::Checked;
 use lists::read::Reading;
 use shapes::Clip;
+use shapes::Disc;
 use shapes::Line;
 use shapes::Record;
+use shapes::Ring;
 use shapes::Setting;
 use shapes::Shape;
 ghost use mathlib.Core.Path.{_≡_};
@@ -108,6 +110,20 @@ fn circle_answer(kind: u8, x: i16, y: i16, radius: u16, width: u16) -> ReadAnswe
     )
 }
 
+fn disc_answer(disc: Disc) -> ReadAnswer
+    ensures { λ r. ⌜ r ≡ recordAnswer (Record.Shape (Shape.Disc disc)) ⌝ }
+{
+    let kind = lists::format::disc_kind(disc.big);
+    circle_answer(kind, disc.x, disc.y, disc.radius, 0)
+}
+
+fn ring_answer(ring: Ring) -> ReadAnswer
+    ensures { λ r. ⌜ r ≡ recordAnswer (Record.Shape (Shape.Ring ring)) ⌝ }
+{
+    let kind = lists::format::ring_kind(ring.big);
+    circle_answer(kind, ring.x, ring.y, ring.radius, ring.width)
+}
+
 fn setting_answer(setting: Setting) -> ReadAnswer
     ensures { λ r. ⌜ r ≡ recordAnswer (Record.Setting setting) ⌝ }
 {
@@ -123,8 +139,8 @@ fn shape_answer(shape: Shape) -> ReadAnswer
 {
     match shape {
         Shape::Line(line) => line_answer(line),
-        Shape::Disc(disc) => circle_answer(5, disc.x, disc.y, disc.radius, 0),
-        Shape::Ring(ring) => circle_answer(6, ring.x, ring.y, ring.radius, ring.width),
+        Shape::Disc(disc) => disc_answer(disc),
+        Shape::Ring(ring) => ring_answer(ring),
     }
 }
 

@@ -65,8 +65,24 @@ fn draw(
             level,
             line_of(kind == 3, numbers),
         ),
-        5 => draw::draw_disc(page, width, height, lights, kept, level, disc_of(numbers)),
-        6 => draw::draw_ring(page, width, height, lights, kept, level, ring_of(numbers)),
+        5 | 8 => draw::draw_disc(
+            page,
+            width,
+            height,
+            lights,
+            kept,
+            level,
+            disc_of(kind == 8, numbers),
+        ),
+        6 | 9 => draw::draw_ring(
+            page,
+            width,
+            height,
+            lights,
+            kept,
+            level,
+            ring_of(kind == 9, numbers),
+        ),
         _ => draw::Outcome::Refused(4),
     }
 }

@@ -50,7 +50,7 @@ pub(crate) fn coordinate(z: i32) -> i16
     z as i16
 }
 
-// An unsigned number: a version, W, H, a radius or a ring's width.
+// A version, W or H.
 pub(crate) fn unsigned(n: u32) -> u16
     ensures { λ r. ⌜ r ≡ unsignedOf n ⌝ }
 {
@@ -60,7 +60,7 @@ pub(crate) fn unsigned(n: u32) -> u16
     n as u16
 }
 
-// A number of a clip.
+// A number of a clip, a radius or a ring's width.
 fn edge(n: u32) -> u16
     ensures { λ r. ⌜ r ≡ edgeOf n ⌝ }
 {
@@ -77,7 +77,7 @@ fn measure(z: i32) -> u16
     if z < 0 {
         return 0;
     }
-    unsigned(z as u32)
+    edge(z as u32)
 }
 
 pub(crate) fn basis_of(given: GivenBasis) -> Basis
@@ -124,24 +124,26 @@ pub(crate) fn line_of(exact: bool, numbers: [i32; 6]) -> Line
     }
 }
 
-pub(crate) fn disc_of(numbers: [i32; 6]) -> Disc
-    ensures { λ r. ⌜ r ≡ discOf numbers ⌝ }
+pub(crate) fn disc_of(big: bool, numbers: [i32; 6]) -> Disc
+    ensures { λ r. ⌜ r ≡ discOf big numbers ⌝ }
 {
     Disc {
         x: coordinate(numbers[0]),
         y: coordinate(numbers[1]),
         radius: measure(numbers[2]),
+        big,
     }
 }
 
-pub(crate) fn ring_of(numbers: [i32; 6]) -> Ring
-    ensures { λ r. ⌜ r ≡ ringOf numbers ⌝ }
+pub(crate) fn ring_of(big: bool, numbers: [i32; 6]) -> Ring
+    ensures { λ r. ⌜ r ≡ ringOf big numbers ⌝ }
 {
     Ring {
         x: coordinate(numbers[0]),
         y: coordinate(numbers[1]),
         radius: measure(numbers[2]),
         width: measure(numbers[3]),
+        big,
     }
 }
 
@@ -153,8 +155,10 @@ pub(crate) fn taken_of(given: GivenShape) -> Taken
     match kind {
         3 => Taken::Known(Shape::Line(line_of(true, numbers))),
         4 => Taken::Known(Shape::Line(line_of(false, numbers))),
-        5 => Taken::Known(Shape::Disc(disc_of(numbers))),
-        6 => Taken::Known(Shape::Ring(ring_of(numbers))),
+        5 => Taken::Known(Shape::Disc(disc_of(false, numbers))),
+        6 => Taken::Known(Shape::Ring(ring_of(false, numbers))),
+        8 => Taken::Known(Shape::Disc(disc_of(true, numbers))),
+        9 => Taken::Known(Shape::Ring(ring_of(true, numbers))),
         _ => Taken::Unknown,
     }
 }

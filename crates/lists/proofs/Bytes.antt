@@ -3,7 +3,7 @@ use lib.Dec.{eqb}
 use mathlib.Core.Path.{_≡_, refl}
 use mathlib.Core.Bool.{Bool, true, false, cond}
 use mathlib.Core.Logic.{⊎-elim}
-use mathlib.Core.List.{List}
+use mathlib.Core.List.{List, [], _∷_, _++_}
 use Prim.Native.Nat.{ℕ, _-_, _≤_, _<_}
 use native.Mathlib.Nat.{zero-lt-suc}
 use native.Mathlib.Omega.{arith}
@@ -15,7 +15,7 @@ use Rattle.shapes.specs.declared.Shape.the-variants.{Line as line, Disc as disc
 use Rattle.shapes.specs.declared.Setting.the-variants.{Clip as clip, Level as level, Player as player}
 use Rattle.shapes.specs.declared.Record.{Record}
 use Rattle.shapes.specs.declared.Record.the-variants.{End as end, Setting as setting, Shape as shape}
-use Rattle.lists.specs.Format.{kindSize, lastKind, offKind, kindOf, fieldsOf, decoded, recordBytes}
+use Rattle.lists.specs.Format.{kindSize, lastKind, offKind, kindOf, coordinates, measures, fieldsOf, decoded, recordBytes}
 use Rattle.lists.specs.inner.Record.{recordMost, padded}
 use Rattle.lists.specs.Write.{putAt}
 
@@ -33,44 +33,52 @@ record-size (shape (line l)) = of-line (l .exact)
     of-line : (exact : Bool) → kindSize (cond exact 3 4) ≡ 9
     of-line true = refl
     of-line false = refl
-record-size (shape (disc d)) = refl
-record-size (shape (ring g)) = refl
+record-size (shape (disc d)) = of-disc (d .big)
+  where
+    of-disc : (big : Bool) → kindSize (cond big 8 5) ≡ length (cond big 8 5 ∷ coordinates (d .x ∷ d .y ∷ []) ++ measures big (d .radius ∷ []))
+    of-disc true = refl
+    of-disc false = refl
+record-size (shape (ring g)) = of-ring (g .big)
+  where
+    of-ring : (big : Bool) → kindSize (cond big 9 6) ≡ length (cond big 9 6 ∷ coordinates (g .x ∷ g .y ∷ []) ++ measures big (g .radius ∷ g .width ∷ []))
+    of-ring true = refl
+    of-ring false = refl
 
--- kinds above 7 are unknown
-unknown-kind : (k : ℕ) → 7 < k → kindSize k ≡ 0
+-- kinds above 9 are unknown
+unknown-kind : (k : ℕ) → 9 < k → kindSize k ≡ 0
 unfolding kindSize
 unknown-kind k h =
-    let other : (j : ℕ) → j ≤ 7 → eqb k j ≡ false = λ j i. ne-eqb k j (λ e. omega arith) in
-    simp (other 0 (omega arith), other 1 (omega arith), other 2 (omega arith), other 3 (omega arith), other 4 (omega arith), other 5 (omega arith), other 6 (omega arith), other 7 (omega arith))
+    let other : (j : ℕ) → j ≤ 9 → eqb k j ≡ false = λ j i. ne-eqb k j (λ e. omega arith) in
+    simp (other 0 (omega arith), other 1 (omega arith), other 2 (omega arith), other 3 (omega arith), other 4 (omega arith), other 5 (omega arith), other 6 (omega arith), other 7 (omega arith), other 8 (omega arith), other 9 (omega arith))
 
 -- each kind of a version has a row
 pub known-kind : (v k : ℕ) → offKind v k ≡ false → 0 < kindSize k
 unfolding kindSize
 known-kind v k e =
     let last = ltb-false (lastKind v) k e in
-    let most : lastKind v ≤ 7 = cond-le (eqb v 1) (omega arith) (omega arith) in
-    let sizes : AllBelow 8 (λ j. 0 < kindSize j)
-    = ((((((((tt, zero-lt-suc 0), zero-lt-suc 8), zero-lt-suc 1), zero-lt-suc 8), zero-lt-suc 8), zero-lt-suc 5), zero-lt-suc 6), zero-lt-suc 1) in
-    below 8 (λ j. 0 < kindSize j) sizes k (omega arith)
+    let most : lastKind v ≤ 9 = cond-le (eqb v 1) (omega arith) (omega arith) in
+    let sizes : AllBelow 10 (λ j. 0 < kindSize j)
+    = ((((((((((tt, zero-lt-suc 0), zero-lt-suc 8), zero-lt-suc 1), zero-lt-suc 8), zero-lt-suc 8), zero-lt-suc 5), zero-lt-suc 6), zero-lt-suc 1), zero-lt-suc 6), zero-lt-suc 8) in
+    below 10 (λ j. 0 < kindSize j) sizes k (omega arith)
 
 -- what holds of the kinds one by one holds of each known kind
-pub each-kind : (P : ℕ → Type 0) → AllBelow 8 P → (k : ℕ) → 0 < kindSize k → P k
-each-kind P rows k h = ⊎-elim (below 8 P rows k) (λ i. absurd (let z = unknown-kind k (omega arith) in omega arith)) (lt-or-le k 8)
+pub each-kind : (P : ℕ → Type 0) → AllBelow 10 P → (k : ℕ) → 0 < kindSize k → P k
+each-kind P rows k h = ⊎-elim (below 10 P rows k) (λ i. absurd (let z = unknown-kind k (omega arith) in omega arith)) (lt-or-le k 10)
 
 -- a record that was read is of the kind that it was read by
 pub kind-found : (k : ℕ) (s : List ℕ) → 0 < kindSize k → kindOf (decoded k s) ≡ k
 unfolding kindOf decoded
-kind-found k s = each-kind (λ j. kindOf (decoded j s) ≡ j) ((((((((tt, refl), refl), refl), refl), refl), refl), refl), refl) k
+kind-found k s = each-kind (λ j. kindOf (decoded j s) ≡ j) ((((((((((tt, refl), refl), refl), refl), refl), refl), refl), refl), refl), refl) k
 
+-- a record's kind is one of the rows, and none is longer than the array
 pub record-most : (r : Record) → length (recordBytes r) ≤ recordMost
-unfolding fieldsOf
-record-most end = omega arith
-record-most (setting (clip c)) = omega arith
-record-most (setting (level v)) = omega arith
-record-most (setting (player p)) = omega arith
-record-most (shape (line l)) = omega arith
-record-most (shape (disc d)) = omega arith
-record-most (shape (ring g)) = omega arith
+unfolding kindSize
+record-most r =
+    let size = record-size r in
+    let rows : AllBelow 10 (λ j. kindSize j ≤ recordMost)
+    = ((((((((((tt, omega arith), omega arith), omega arith), omega arith), omega arith), omega arith), omega arith), omega arith), omega arith), omega arith) in
+    let most = each-kind (λ j. kindSize j ≤ recordMost) rows (kindOf r) (omega arith) in
+    omega arith
 
 -- the first bytes of an array put into a list
 pub put-padded : (l : List ℕ) (place : ℕ) (bs : List ℕ) → paste l place (padded bs) (length bs) ≡ putAt place bs l

@@ -11,8 +11,10 @@ use lib.Seq.{drop-at, length-take-le}
 use Rattle.numbers.specs.Coordinate.{bitsOf, signedOf, wordOf}
 use Rattle.numbers.proofs.Integer.{sfits-diff}
 use Rattle.numbers.proofs.Coordinate.{InRange, signed-bits, word-bytes}
-use Rattle.shapes.specs.Limits.{basisRefusal, shapeRefusal, recordRefusal}
+use Rattle.shapes.specs.Limits.{basisRefusal, refusalWithin, radiusRoom, recordRefusal}
 use Rattle.shapes.specs.declared.Line.{Line}
+use Rattle.shapes.specs.declared.Disc.{Disc}
+use Rattle.shapes.specs.declared.Ring.{Ring}
 use Rattle.shapes.specs.declared.Shape.{Shape}
 use Rattle.shapes.specs.declared.Shape.the-variants.{Line as line, Disc as disc, Ring as ring}
 use Rattle.shapes.specs.declared.Setting.the-variants.{Clip as clip, Level as level, Player as player}
@@ -24,7 +26,7 @@ use Rattle.lists.specs.Read.{readRefusal, readingOf, pastRecord}
 use Rattle.lists.specs.Write.{putAt, recordWritten, recordList}
 use Rattle.lists.specs.declared.read.Reading.the-variants.{Found}
 use Rattle.lists.proofs.Bytes.{record-size}
-use Rattle.shapes.proofs.Limits.{LawfulLine, line-lawful, disc-lawful, ring-lawful}
+use Rattle.shapes.proofs.Limits.{LawfulLine, line-lawful, LawfulCircle, disc-lawful, ring-lawful}
 use Rattle.lists.proofs.Writes.{writable, record-done, written-refusal}
 
 -- ---- a record from its own bytes, whatever bytes follow
@@ -48,15 +50,40 @@ module _ (t : List ℕ) where
       of true = ap (λ (l : Line). shape (line l)) (fields 3 true)
       of false = ap (λ (l : Line). shape (line l)) (fields 4 false)
 
-  shape-back : (s : Shape) → shapeRefusal s ≡ 0 → recordAt (recordBytes (shape s) ++ t) ≡ shape s
+  disc-back : {m : ℕ} (d : Disc) → LawfulCircle m (d .x) (d .y) (d .radius) → recordAt (recordBytes (shape (disc d)) ++ t) ≡ shape (disc d)
   unfolding kindOf fieldsOf decoded
+  disc-back d p = of (d .big)
+    where
+      under : Bool → Record
+      under big = shape (disc (record { x = d .x; y = d .y; radius = d .radius; big = big }))
+
+      of : (big : Bool) → recordAt (recordBytes (under big) ++ t) ≡ under big
+      of true =
+          let at = coordinate-back in
+          λ i. shape (disc (record { x = at (d .x) (p .x-in) i; y = at (d .y) (p .y-in) i; radius = word-bytes (d .radius) i; big = true }))
+      of false =
+          let at = coordinate-back in
+          λ i. shape (disc (record { x = at (d .x) (p .x-in) i; y = at (d .y) (p .y-in) i; radius = d .radius; big = false }))
+
+  ring-back : {m : ℕ} (g : Ring) → LawfulCircle m (g .x) (g .y) (g .radius) → recordAt (recordBytes (shape (ring g)) ++ t) ≡ shape (ring g)
+  unfolding kindOf fieldsOf decoded
+  ring-back g p = of (g .big)
+    where
+      under : Bool → Record
+      under big = shape (ring (record { x = g .x; y = g .y; radius = g .radius; width = g .width; big = big }))
+
+      of : (big : Bool) → recordAt (recordBytes (under big) ++ t) ≡ under big
+      of true =
+          let at = coordinate-back in
+          λ i. shape (ring (record { x = at (g .x) (p .x-in) i; y = at (g .y) (p .y-in) i; radius = word-bytes (g .radius) i; width = word-bytes (g .width) i; big = true }))
+      of false =
+          let at = coordinate-back in
+          λ i. shape (ring (record { x = at (g .x) (p .x-in) i; y = at (g .y) (p .y-in) i; radius = g .radius; width = g .width; big = false }))
+
+  shape-back : (s : Shape) → refusalWithin (radiusRoom s) s ≡ 0 → recordAt (recordBytes (shape s) ++ t) ≡ shape s
   shape-back (line l) e = line-back l (line-lawful l e)
-  shape-back (disc d) e =
-      let p = disc-lawful d e in
-      λ i. shape (disc (record { x = coordinate-back (d .x) (p .x-in) i; y = coordinate-back (d .y) (p .y-in) i; radius = d .radius }))
-  shape-back (ring g) e =
-      let p = ring-lawful g e .circle in
-      λ i. shape (ring (record { x = coordinate-back (g .x) (p .x-in) i; y = coordinate-back (g .y) (p .y-in) i; radius = g .radius; width = g .width }))
+  shape-back (disc d) e = disc-back d (disc-lawful d e)
+  shape-back (ring g) e = ring-back g (ring-lawful g e .circle)
 
   pub record-back : (b : Basis) (r : Record) → recordRefusal b r ≡ 0 → recordAt (recordBytes r ++ t) ≡ r
   unfolding kindOf fieldsOf decoded recordRefusal

@@ -7,7 +7,7 @@ use native.Mathlib.Omega.{arith}
 use borrow.Author.Tests.{lt-ltb, ltb-false, not-false}
 use lib.Dec.{ltb, eqb}
 use lib.ListN.{length, drop}
-use Rattle.shapes.specs.Limits.{first, basisRefusal, shapeRefusal, recordRefusal}
+use Rattle.shapes.specs.Limits.{first, basisRefusal, refusalWithin, radiusRoom, recordRefusal}
 use Rattle.shapes.proofs.Limits.{clear, tried-clear, disc-lawful, ring-lawful}
 use Rattle.shapes.specs.declared.Shape.{Shape}
 use Rattle.shapes.specs.declared.Shape.the-variants.{Line as line, Disc as disc, Ring as ring}
@@ -15,7 +15,7 @@ use Rattle.shapes.specs.declared.Basis.{Basis}
 use Rattle.shapes.specs.declared.Record.{Record}
 use Rattle.shapes.specs.declared.Record.the-variants.{End as end, Setting as setting, Shape as shape}
 use Rattle.lists.specs.Format.{listMost, headerSize, headerAt, basisOf, offKind, kindAt, sizeAt, recordAt}
-use Rattle.lists.specs.inner.Record.{Whole, OneByte, OneByteRecord}
+use Rattle.lists.specs.inner.Record.{Whole, ShapeFits, RecordFits}
 use Rattle.lists.proofs.Bytes.{known-kind}
 use Rattle.lists.specs.Read.{readRefusal}
 use Rattle.lists.specs.List.{refused, hasMark, headerRefusal, recordsFrom, recordsOf}
@@ -43,18 +43,18 @@ readable b s e =
       lawful = lawful .0;
     }
 
--- the radius and the width of a lawful record are one byte each
-one-byte-shape : (s : Shape) → shapeRefusal s ≡ 0 → OneByte s
-unfolding OneByte
-one-byte-shape (line l) e = tt
-one-byte-shape (disc d) e = disc-lawful d e .most
-one-byte-shape (ring g) e = let p = ring-lawful g e in (p .circle .most, omega (arith, p .most, p .circle .most))
+-- the radius and the width of a lawful record fit it
+shape-fits : (s : Shape) → refusalWithin (radiusRoom s) s ≡ 0 → ShapeFits s
+unfolding ShapeFits
+shape-fits (line l) e = tt
+shape-fits (disc d) e = (disc-lawful d e .most, omega arith)
+shape-fits (ring g) e = let p = ring-lawful g e in (p .circle .most, p .most)
 
-pub one-byte : (b : Basis) (r : Record) → recordRefusal b r ≡ 0 → OneByteRecord r
+pub record-fits : (b : Basis) (r : Record) → recordRefusal b r ≡ 0 → RecordFits r
 unfolding recordRefusal
-one-byte b end e = tt
-one-byte b (setting g) e = tt
-one-byte b (shape s) e = one-byte-shape s e
+record-fits b end e = tt
+record-fits b (setting g) e = tt
+record-fits b (shape s) e = shape-fits s e
 
 -- ---- the header of a list
 

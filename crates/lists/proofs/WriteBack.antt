@@ -64,7 +64,12 @@ module _ (s : List ℕ) (b : AllBytes s) where
   abbrev Again : ℕ → Type 0
   Again k = getD s 0 0 ≡ k → recordBytes (decoded k s) ≡ firsts (kindSize k) 0 s
 
-  kinds-again : AllBelow 8 Again
+  -- the centre of a disc or a ring, and what stands behind it
+  centre : {bs cs : List ℕ} → bs ≡ cs → coordinates (coordinateAt s 1 ∷ coordinateAt s 3 ∷ []) ++ bs ≡ firsts 4 1 s ++ cs
+  unfolding firsts
+  centre e = coordinate-then (b 1) (b 2) (coordinate-then (b 3) (b 4) e)
+
+  kinds-again : AllBelow 10 Again
   unfolding firsts kindSize kindOf fieldsOf decoded
   kinds-again =
       let edges : words (wordAt s 1 ∷ wordAt s 3 ∷ wordAt s 5 ∷ wordAt s 7 ∷ []) ≡ firsts 8 1 s
@@ -73,12 +78,18 @@ module _ (s : List ℕ) (b : AllBytes s) where
       = coordinate-then (b 1) (b 2) (coordinate-then (b 3) (b 4) (coordinate-then (b 5) (b 6) (coordinate-then (b 7) (b 8) refl))) in (
         (
           (
-            (((((tt, λ e. front e refl), λ e. front e edges), λ e. front e refl), λ e. front e ends), λ e. front e ends),
-            λ e. front e (coordinate-then (b 1) (b 2) (coordinate-then (b 3) (b 4) refl)),
+            (
+              (
+                (((((tt, λ e. front e refl), λ e. front e edges), λ e. front e refl), λ e. front e ends), λ e. front e ends),
+                λ e. front e (centre refl),
+              ),
+              λ e. front e (centre refl),
+            ),
+            λ e. front e refl,
           ),
-          λ e. front e (coordinate-then (b 1) (b 2) (coordinate-then (b 3) (b 4) refl)),
+          λ e. front e (centre (word-then (b 5) refl)),
         ),
-        λ e. front e refl,
+        λ e. front e (centre (word-then (b 5) (word-then (b 7) refl))),
       )
 
   kind-again : (k : ℕ) → 0 < kindSize k → Again k

@@ -50,10 +50,16 @@ lineAt exact s =
     record { exact = exact; x0 = coordinateAt s 1; y0 = coordinateAt s 3; x1 = coordinateAt s 5; y1 = coordinateAt s 7 }
 
 abbrev pub discAt : List ℕ → Disc
-discAt s = record { x = coordinateAt s 1; y = coordinateAt s 3; radius = getD s 5 0 }
+discAt s = record { x = coordinateAt s 1; y = coordinateAt s 3; radius = getD s 5 0; big = false }
 
 abbrev pub ringAt : List ℕ → Ring
-ringAt s = record { x = coordinateAt s 1; y = coordinateAt s 3; radius = getD s 5 0; width = getD s 6 0 }
+ringAt s = record { x = coordinateAt s 1; y = coordinateAt s 3; radius = getD s 5 0; width = getD s 6 0; big = false }
+
+abbrev pub bigDiscAt : List ℕ → Disc
+bigDiscAt s = record { x = coordinateAt s 1; y = coordinateAt s 3; radius = wordAt s 5; big = true }
+
+abbrev pub bigRingAt : List ℕ → Ring
+bigRingAt s = record { x = coordinateAt s 1; y = coordinateAt s 3; radius = wordAt s 5; width = wordAt s 7; big = true }
 
 -- ---- the kinds
 
@@ -76,6 +82,8 @@ kinds =
     ∷ kind 5 6 (λ s. shape (disc (discAt s)))
     ∷ kind 6 7 (λ s. shape (ring (ringAt s)))
     ∷ kind 7 2 (λ s. setting (player (getD s 1 0)))
+    ∷ kind 8 7 (λ s. shape (disc (bigDiscAt s)))
+    ∷ kind 9 9 (λ s. shape (ring (bigRingAt s)))
     ∷ []
 
 -- the size and the record by the row of kind k; 0 and an end record where there is none
@@ -95,7 +103,7 @@ decoded = foundIn kinds
 
 -- a version has the kinds from 0 to its last
 abbrev pub lastKind : ℕ → ℕ
-lastKind v = cond (eqb v 1) 6 7
+lastKind v = cond (eqb v 1) 6 9
 
 -- 4: a kind that version v does not have
 abbrev pub offKind : ℕ → ℕ → Bool
@@ -108,8 +116,8 @@ kindOf (setting (clip c)) = 1
 kindOf (setting (level v)) = 2
 kindOf (setting (player p)) = 7
 kindOf (shape (line l)) = cond (l .exact) 3 4
-kindOf (shape (disc d)) = 5
-kindOf (shape (ring g)) = 6
+kindOf (shape (disc d)) = cond (d .big) 8 5
+kindOf (shape (ring g)) = cond (g .big) 9 6
 
 abbrev pub kindAt : List ℕ → ℕ
 kindAt s = getD s 0 0
@@ -135,6 +143,10 @@ abbrev pub coordinates : List ℤ → List ℕ
 coordinates [] = []
 coordinates (z ∷ zs) = bytesOf (bitsOf z) ++ coordinates zs
 
+-- a radius and a width: two bytes each under kinds 8 and 9, one byte each under 5 and 6
+abbrev pub measures : Bool → List ℕ → List ℕ
+measures big ns = cond big (words ns) ns
+
 unfoldable pub headerBytes : Header → List ℕ
 headerBytes d = mark ++ words (d .version ∷ d .w ∷ d .h ∷ []) ++ d .background ∷ []
 
@@ -144,8 +156,8 @@ fieldsOf (setting (clip c)) = words (c .x0 ∷ c .y0 ∷ c .x1 ∷ c .y1 ∷ [])
 fieldsOf (setting (level v)) = v ∷ []
 fieldsOf (setting (player p)) = p ∷ []
 fieldsOf (shape (line l)) = coordinates (l .x0 ∷ l .y0 ∷ l .x1 ∷ l .y1 ∷ [])
-fieldsOf (shape (disc d)) = coordinates (d .x ∷ d .y ∷ []) ++ d .radius ∷ []
-fieldsOf (shape (ring g)) = coordinates (g .x ∷ g .y ∷ []) ++ g .radius ∷ g .width ∷ []
+fieldsOf (shape (disc d)) = coordinates (d .x ∷ d .y ∷ []) ++ measures (d .big) (d .radius ∷ [])
+fieldsOf (shape (ring g)) = coordinates (g .x ∷ g .y ∷ []) ++ measures (g .big) (g .radius ∷ g .width ∷ [])
 
 abbrev pub recordBytes : Record → List ℕ
 recordBytes r = kindOf r ∷ fieldsOf r

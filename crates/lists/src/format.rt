@@ -4,8 +4,8 @@ ghost use Prim.Native.Nat.{_+_, _≤_};
 ghost use lib.ListN.{length};
 ghost use mathlib.Core.Bool.{cond};
 ghost use mathlib.Core.List.{[], _∷_, _++_};
-ghost use Rattle.lists.specs.Format.{headerSize, kindSize, lastKind, kindOf, words, coordinates, headerBytes, recordBytes, wordAt, coordinateAt, headerAt, basisOf, clipAt, lineAt, discAt, ringAt, recordAt};
-ghost use Rattle.lists.specs.inner.Record.{Whole, padded, OneByte, OneByteRecord};
+ghost use Rattle.lists.specs.Format.{headerSize, kindSize, lastKind, kindOf, words, coordinates, measures, headerBytes, recordBytes, wordAt, coordinateAt, headerAt, basisOf, clipAt, lineAt, discAt, ringAt, bigDiscAt, bigRingAt, recordAt};
+ghost use Rattle.lists.specs.inner.Record.{Whole, padded, CircleFits, ShapeFits, RecordFits};
 use shapes::Basis;
 use shapes::Clip;
 use shapes::Disc;
@@ -45,6 +45,8 @@ pub fn kind_size(kind: u8) -> usize
         5 => 6,
         6 => 7,
         7 => 2,
+        8 => 7,
+        9 => 9,
         _ => 0,
     }
 }
@@ -53,7 +55,7 @@ pub fn kind_size(kind: u8) -> usize
 pub(crate) fn last_kind(version: u16) -> u8
     ensures { λ r. ⌜ r ≡ lastKind version ⌝ }
 {
-    if version == 1 { 6 } else { 7 }
+    if version == 1 { 6 } else { 9 }
 }
 
 // The two bytes at a place, the low one first.
@@ -105,6 +107,7 @@ fn disc_at(list: &[u8]) -> Disc
         x: coordinate_at(list, 1),
         y: coordinate_at(list, 3),
         radius: list[5] as u16,
+        big: false,
     }
 }
 
@@ -117,6 +120,33 @@ fn ring_at(list: &[u8]) -> Ring
         y: coordinate_at(list, 3),
         radius: list[5] as u16,
         width: list[6] as u16,
+        big: false,
+    }
+}
+
+// The disc and the ring of kinds 8 and 9, whose radius and width have two bytes each.
+fn big_disc_at(list: &[u8]) -> Disc
+    requires { ⌜ 7 ≤ length (now list) ⌝ }
+    ensures { λ r. ⌜ r ≡ bigDiscAt (now (list .entry)) ⌝ }
+{
+    Disc {
+        x: coordinate_at(list, 1),
+        y: coordinate_at(list, 3),
+        radius: word_at(list, 5),
+        big: true,
+    }
+}
+
+fn big_ring_at(list: &[u8]) -> Ring
+    requires { ⌜ 9 ≤ length (now list) ⌝ }
+    ensures { λ r. ⌜ r ≡ bigRingAt (now (list .entry)) ⌝ }
+{
+    Ring {
+        x: coordinate_at(list, 1),
+        y: coordinate_at(list, 3),
+        radius: word_at(list, 5),
+        width: word_at(list, 7),
+        big: true,
     }
 }
 
@@ -134,6 +164,8 @@ pub fn decode(list: &[u8]) -> Record
         5 => Record::Shape(Shape::Disc(disc_at(list))),
         6 => Record::Shape(Shape::Ring(ring_at(list))),
         7 => Record::Setting(Setting::Player(list[1])),
+        8 => Record::Shape(Shape::Disc(big_disc_at(list))),
+        9 => Record::Shape(Shape::Ring(big_ring_at(list))),
         _ => Record::End,
     }
 }
@@ -187,8 +219,8 @@ fn four_words(kind: u8, a: u16, b: u16, c: u16, d: u16) -> [u8; RECORD_MOST]
     ]
 }
 
-// A kind byte, a centre, a radius and a width.
-fn circle_bytes(kind: u8, x: i16, y: i16, radius: u16, width: u16) -> [u8; RECORD_MOST]
+// A kind byte, a centre, and a radius and a width of one byte each.
+fn small_circle_bytes(kind: u8, x: i16, y: i16, radius: u16, width: u16) -> [u8; RECORD_MOST]
     requires { ⌜ (radius ≤ 255) × (width ≤ 255) ⌝ }
     ensures { λ r. ⌜ r ≡ padded (kind ∷ coordinates (x ∷ y ∷ []) ++ radius ∷ width ∷ []) ⌝ }
 {
@@ -211,6 +243,17 @@ fn circle_bytes(kind: u8, x: i16, y: i16, radius: u16, width: u16) -> [u8; RECOR
     ]
 }
 
+// A kind byte, a centre, a radius and a width.
+fn circle_bytes(kind: u8, x: i16, y: i16, radius: u16, width: u16, big: bool) -> [u8; RECORD_MOST]
+    requires { ⌜ CircleFits big radius width ⌝ }
+    ensures { λ r. ⌜ r ≡ padded (kind ∷ coordinates (x ∷ y ∷ []) ++ measures big (radius ∷ width ∷ [])) ⌝ }
+{
+    if big {
+        return four_words(kind, numbers::bits(x), numbers::bits(y), radius, width);
+    }
+    small_circle_bytes(kind, x, y, radius, width)
+}
+
 // The bytes of a setting, of a shape and of a record, zeros behind them.
 fn setting_bytes(setting: Setting) -> [u8; RECORD_MOST]
     ensures { λ r. ⌜ r ≡ padded (recordBytes (Record.Setting setting)) ⌝ }
@@ -229,6 +272,19 @@ pub fn line_kind(exact: bool) -> u8
     if exact { 3 } else { 4 }
 }
 
+// The kind of a disc and of a ring.
+pub fn disc_kind(big: bool) -> u8
+    ensures { λ r. ⌜ r ≡ cond big 8 5 ⌝ }
+{
+    if big { 8 } else { 5 }
+}
+
+pub fn ring_kind(big: bool) -> u8
+    ensures { λ r. ⌜ r ≡ cond big 9 6 ⌝ }
+{
+    if big { 9 } else { 6 }
+}
+
 fn line_bytes(line: Line) -> [u8; RECORD_MOST]
     ensures { λ r. ⌜ r ≡ padded (recordBytes (Record.Shape (Shape.Line line))) ⌝ }
 {
@@ -242,21 +298,35 @@ fn line_bytes(line: Line) -> [u8; RECORD_MOST]
 }
 
 fn disc_bytes(disc: Disc) -> [u8; RECORD_MOST]
-    requires { ⌜ OneByte (Shape.Disc disc) ⌝ }
+    requires { ⌜ ShapeFits (Shape.Disc disc) ⌝ }
     ensures { λ r. ⌜ r ≡ padded (recordBytes (Record.Shape (Shape.Disc disc))) ⌝ }
 {
-    circle_bytes(5, disc.x, disc.y, disc.radius, 0)
+    circle_bytes(
+        disc_kind(disc.big),
+        disc.x,
+        disc.y,
+        disc.radius,
+        0,
+        disc.big,
+    )
 }
 
 fn ring_bytes(ring: Ring) -> [u8; RECORD_MOST]
-    requires { ⌜ OneByte (Shape.Ring ring) ⌝ }
+    requires { ⌜ ShapeFits (Shape.Ring ring) ⌝ }
     ensures { λ r. ⌜ r ≡ padded (recordBytes (Record.Shape (Shape.Ring ring))) ⌝ }
 {
-    circle_bytes(6, ring.x, ring.y, ring.radius, ring.width)
+    circle_bytes(
+        ring_kind(ring.big),
+        ring.x,
+        ring.y,
+        ring.radius,
+        ring.width,
+        ring.big,
+    )
 }
 
 fn shape_bytes(shape: Shape) -> [u8; RECORD_MOST]
-    requires { ⌜ OneByte shape ⌝ }
+    requires { ⌜ ShapeFits shape ⌝ }
     ensures { λ r. ⌜ r ≡ padded (recordBytes (Record.Shape shape)) ⌝ }
 {
     match shape {
@@ -267,7 +337,7 @@ fn shape_bytes(shape: Shape) -> [u8; RECORD_MOST]
 }
 
 pub(crate) fn record_bytes(rec: Record) -> [u8; RECORD_MOST]
-    requires { ⌜ OneByteRecord rec ⌝ }
+    requires { ⌜ RecordFits rec ⌝ }
     ensures { λ r. ⌜ r ≡ padded (recordBytes rec) ⌝ }
 {
     match rec {
@@ -283,8 +353,8 @@ fn shape_kind(shape: Shape) -> u8
 {
     match shape {
         Shape::Line(line) => line_kind(line.exact),
-        Shape::Disc(_) => 5,
-        Shape::Ring(_) => 6,
+        Shape::Disc(disc) => disc_kind(disc.big),
+        Shape::Ring(ring) => ring_kind(ring.big),
     }
 }
 

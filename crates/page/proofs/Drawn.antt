@@ -89,18 +89,19 @@ pub drawn-count : {view : View} {size t : ℕ} {ink n : ℕ → ℕ → ℕ} {l 
 drawn-count {view} {n = n} law d =
     omega (arith, d .count, touches-le (view .w) (view .h) n, mul-le-mul (law .h-most) (law .w-most))
 
--- columns p to q drawn, q to r whole, and r to s drawn
-pub drawn-band : {w h : ℕ} {ink : ℕ → ℕ → ℕ} {l m k l′ : List ℕ} {t u v : ℕ} (n : ℕ → ℕ → ℕ) (d y p q r s : ℕ) → p ≤ q → q ≤ r → r ≤ s
-    → ((x : ℕ) → q ≤ x → x < r → n x y ≡ d)
+-- columns p to q, then q to s
+pub drawn-beside : {w h : ℕ} {ink : ℕ → ℕ → ℕ} {l m k : List ℕ} {t u : ℕ} (n : ℕ → ℕ → ℕ) (y p q s : ℕ) → p ≤ q → q ≤ s
     → Drawn w h ink (clipped p y q (y + 1) n) l m t
-    → Drawn w h ink (clipped q y r (y + 1) (λ _ _. d)) m k u
-    → Drawn w h ink (clipped r y s (y + 1) n) k l′ v
-    → Drawn w h ink (clipped p y s (y + 1) n) l l′ (t + u + v)
-drawn-band n d y p q r s h₁ h₂ h₃ whole first middle last =
-    drawn-join (clipped p y s (y + 1) n) (clip-columns p y s (y + 1) r n (omega arith) h₃)
-    (drawn-join (clipped p y r (y + 1) n) (clip-columns p y r (y + 1) q n h₁ h₂) first
-    (drawn-ext (clipped q y r (y + 1) n) (clip-ext q y r (y + 1) (λ _ _. d) n same) middle))
-    last
+    → Drawn w h ink (clipped q y s (y + 1) n) m k u
+    → Drawn w h ink (clipped p y s (y + 1) n) l k (t + u)
+drawn-beside n y p q s h₁ h₂ = drawn-join (clipped p y s (y + 1) n) (clip-columns p y s (y + 1) q n h₁ h₂)
+
+-- columns q to r, all of them whole
+pub drawn-full : {w h : ℕ} {ink : ℕ → ℕ → ℕ} {l m : List ℕ} {t : ℕ} (n : ℕ → ℕ → ℕ) (d y q r : ℕ)
+    → ((x : ℕ) → q ≤ x → x < r → n x y ≡ d)
+    → Drawn w h ink (clipped q y r (y + 1) (λ _ _. d)) l m t
+    → Drawn w h ink (clipped q y r (y + 1) n) l m t
+drawn-full n d y q r whole = drawn-ext (clipped q y r (y + 1) n) (clip-ext q y r (y + 1) (λ _ _. d) n same)
   where
     same : (x z : ℕ) → Inside q y r (y + 1) x z → d ≡ n x z
     same x z i =

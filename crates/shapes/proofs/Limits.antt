@@ -14,10 +14,10 @@ use mir.Facts.{toZ-ofZ}
 use Rattle.numbers.specs.inner.Order.{dist}
 use Rattle.numbers.specs.Coordinate.{inRange}
 use Rattle.numbers.specs.inner.Offset.{offsetMost, offsetOf}
-use Rattle.numbers.proofs.Order.{lt-or-le, eq-or-ne}
+use Rattle.numbers.proofs.Order.{lt-or-le, eq-or-ne, cond-le}
 use Rattle.numbers.proofs.Integer.{diff-le, le-diff}
 use Rattle.numbers.proofs.Coordinate.{InRange, in-range, range-offset}
-use Rattle.shapes.specs.Limits.{offVersion, outside, same, offRange, radiusMost, offRadius, refusalsOf, sizeRefusal, basisRefusal, shapeRefusal}
+use Rattle.shapes.specs.Limits.{offVersion, outside, same, offRange, refusalsOf, radiusMost, circleRoom, radiusRoom, sizeRefusal, basisRefusal, refusalWithin, shapeRefusal}
 use Rattle.shapes.specs.inner.Offsets.{pointOf, endsOf}
 use Rattle.shapes.specs.declared.Point.{Point}
 use Rattle.shapes.specs.declared.Ends.{Ends}
@@ -25,11 +25,12 @@ use Rattle.shapes.specs.declared.Basis.{Basis}
 use Rattle.shapes.specs.declared.Line.{Line}
 use Rattle.shapes.specs.declared.Disc.{Disc}
 use Rattle.shapes.specs.declared.Ring.{Ring}
+use Rattle.shapes.specs.declared.Shape.{Shape}
 use Rattle.shapes.specs.declared.Shape.the-variants.{Line as line, Disc as disc, Ring as ring}
 
 -- the disc around a ring
 abbrev pub outer : Ring → Disc
-outer g = record { x = g .x; y = g .y; radius = g .radius }
+outer g = record { x = g .x; y = g .y; radius = g .radius; big = g .big }
 
 -- ---- the first of some refusals is none
 
@@ -102,7 +103,7 @@ point-kept f g e = rw (toZ-ofZ f, toZ-ofZ g) at e
 pub line-refusals : (l : Line) (e : Ends) → e ≡ endsOf l
     → shapeRefusal (line l)
     ≡ cond (ltb offsetMost (e .x0) || ltb offsetMost (e .y0) || ltb offsetMost (e .x1) || ltb offsetMost (e .y1)) 7 (cond (eqb (e .x0) (e .x1) && eqb (e .y0) (e .y1)) 9 0)
-unfolding shapeRefusal offRange refusalsOf
+unfolding refusalWithin offRange refusalsOf
 line-refusals l e h =
     rw (h, ← outside-offset (l .x0), ← outside-offset (l .y0), ← outside-offset (l .x1), ← outside-offset (l .y1))
     (go (outside (l .x0)) (outside (l .y0)) (outside (l .x1)) (outside (l .y1)) refl refl refl refl)
@@ -117,22 +118,32 @@ line-refusals l e h =
     go false false false false e₀ e₁ e₂ e₃ = rw (same-offset (in-of e₀) (in-of e₂), same-offset (in-of e₁) (in-of e₃))
 
 -- those of a disc
-pub disc-refusals : (d : Disc) (p : Point) → p ≡ pointOf (d .x) (d .y)
-    → shapeRefusal (disc d) ≡ cond (ltb offsetMost (p .x) || ltb offsetMost (p .y)) 7 (cond (ltb (d .radius) 1 || ltb radiusMost (d .radius)) 10 0)
-unfolding shapeRefusal offRange refusalsOf
-disc-refusals d p h = rw (h, outside-offset (d .x), outside-offset (d .y))
+pub disc-refusals : (m : ℕ) (d : Disc) (p : Point) → p ≡ pointOf (d .x) (d .y)
+    → refusalWithin m (disc d) ≡ cond (ltb offsetMost (p .x) || ltb offsetMost (p .y)) 7 (cond (eqb (d .radius) 0) 10 (cond (ltb m (d .radius)) 33 0))
+unfolding refusalWithin offRange refusalsOf
+disc-refusals m d p h = rw (h, outside-offset (d .x), outside-offset (d .y))
 
 -- those of a ring: its disc, then its width
-pub ring-refusals : (g : Ring)
-    → shapeRefusal (ring g)
-    ≡ cond (ltb 0 (shapeRefusal (disc (outer g)))) (shapeRefusal (disc (outer g))) (cond (ltb (g .width) 1 || ltb (g .radius) (g .width)) 11 0)
-unfolding shapeRefusal offRange refusalsOf
-ring-refusals g = go (outside (g .x) || outside (g .y)) (ltb (g .radius) 1 || ltb radiusMost (g .radius)) (cond (ltb (g .width) 1 || ltb (g .radius) (g .width)) 11 0)
+pub ring-refusals : (m : ℕ) (g : Ring)
+    → refusalWithin m (ring g)
+    ≡ cond (ltb 0 (refusalWithin m (disc (outer g)))) (refusalWithin m (disc (outer g))) (cond (ltb (g .width) 1 || ltb (g .radius) (g .width)) 11 0)
+unfolding refusalWithin offRange refusalsOf
+ring-refusals m g =
+    go (outside (g .x) || outside (g .y)) (eqb (g .radius) 0) (ltb m (g .radius)) (cond (ltb (g .width) 1 || ltb (g .radius) (g .width)) 11 0)
   where
-    go : (a b : Bool) (n : ℕ) → cond a 7 (cond b 10 n) ≡ cond (ltb 0 (cond a 7 (cond b 10 0))) (cond a 7 (cond b 10 0)) n
-    go true b n = refl
-    go false true n = refl
-    go false false n = refl
+    cases : ℕ → Bool → Bool → Bool → ℕ
+    cases last a b c = cond a 7 (cond b 10 (cond c 33 last))
+
+    go : (a b c : Bool) (n : ℕ) → cases n a b c ≡ cond (ltb 0 (cases 0 a b c)) (cases 0 a b c) n
+    go true b c n = refl
+    go false true c n = refl
+    go false false true n = refl
+    go false false false n = refl
+
+-- a line has no radius, so that any may be the greatest
+pub line-within : (m : ℕ) (l : Line) → refusalWithin m (line l) ≡ shapeRefusal (line l)
+unfolding refusalWithin refusalsOf
+line-within m l = refl
 
 -- ---- what a shape without a refusal has
 
@@ -152,7 +163,7 @@ apart a b c d e = go (eq-or-ne a b) (eq-or-ne c d)
     go (inr p) q = omega arith
 
 pub line-lawful : (l : Line) → shapeRefusal (line l) ≡ 0 → LawfulLine l
-unfolding shapeRefusal offRange refusalsOf
+unfolding refusalWithin offRange refusalsOf
 line-lawful l z =
     let k = clear (offRange (line l)) 6 _ z in
     let a = or-clear (outside (l .x0) || outside (l .y0) || outside (l .x1)) (outside (l .y1)) (k .0) in
@@ -169,36 +180,67 @@ line-lawful l z =
           ∙ clear (same (l .x0) (l .x1) && same (l .y0) (l .y1)) 8 0 (k .1) .0);
     }
 
--- a circle with its centre in range and its radius from 1 to the greatest
-pub record LawfulCircle (x y : ℤ) (radius : ℕ) : Type 0 where
+-- a circle with its centre in range and its radius from 1 to m
+pub record LawfulCircle (m : ℕ) (x y : ℤ) (radius : ℕ) : Type 0 where
   pub x-in : InRange x
   pub y-in : InRange y
   pub least : 1 ≤ radius
-  pub most : radius ≤ radiusMost
+  pub most : radius ≤ m
 
-circle-lawful : (x y : ℤ) (radius n : ℕ) → cond (outside x || outside y) 7 (cond (offRadius radius) 10 n) ≡ 0 → LawfulCircle x y radius × (n ≡ 0)
-circle-lawful x y radius n z =
+circle-lawful : (m : ℕ) (x y : ℤ) (radius n : ℕ) → cond (outside x || outside y) 7 (cond (eqb radius 0) 10 (cond (ltb m radius) 33 n)) ≡ 0
+    → LawfulCircle m x y radius × (n ≡ 0)
+circle-lawful m x y radius n z =
     let a = clear (outside x || outside y) 6 _ z in
-    let b = clear (offRadius radius) 9 n (a .1) in
-    let c = or-clear (outside x) (outside y) (a .0) in
-    let d = or-clear (ltb radius 1) (ltb radiusMost radius) (b .0) in
-    (record { x-in = in-of (c .0); y-in = in-of (c .1); least = omega (arith, ltb-false radius 1 (d .0)); most = omega (arith, ltb-false radiusMost radius (d .1)) }, b .1)
+    let b = clear (eqb radius 0) 9 _ (a .1) in
+    let c = clear (ltb m radius) 32 n (b .1) in
+    let d = or-clear (outside x) (outside y) (a .0) in
+    (record { x-in = in-of (d .0); y-in = in-of (d .1); least = above radius (b .0); most = ltb-false m radius (c .0) }, c .1)
+  where
+    above : (r : ℕ) → eqb r 0 ≡ false → 1 ≤ r
+    above zero e = absurd (let q : _≡_ {A = ℕ} 0 1 = cc in omega arith)
+    above (suc r) e = omega arith
 
-pub disc-lawful : (d : Disc) → shapeRefusal (disc d) ≡ 0 → LawfulCircle (d .x) (d .y) (d .radius)
-unfolding shapeRefusal offRange refusalsOf
-disc-lawful d z = circle-lawful (d .x) (d .y) (d .radius) 0 z .0
+pub disc-lawful : {m : ℕ} (d : Disc) → refusalWithin m (disc d) ≡ 0 → LawfulCircle m (d .x) (d .y) (d .radius)
+unfolding refusalWithin offRange refusalsOf
+disc-lawful {m} d z = circle-lawful m (d .x) (d .y) (d .radius) 0 z .0
 
-pub record LawfulRing (g : Ring) : Type 0 where
-  pub circle : LawfulCircle (g .x) (g .y) (g .radius)
+pub record LawfulRing (m : ℕ) (g : Ring) : Type 0 where
+  pub circle : LawfulCircle m (g .x) (g .y) (g .radius)
   pub least : 1 ≤ g .width
   pub most : g .width ≤ g .radius
 
-pub ring-lawful : (g : Ring) → shapeRefusal (ring g) ≡ 0 → LawfulRing g
-unfolding shapeRefusal offRange refusalsOf
-ring-lawful g z =
-    let c = circle-lawful (g .x) (g .y) (g .radius) (cond (ltb (g .width) 1 || ltb (g .radius) (g .width)) 11 0) z in
+pub ring-lawful : {m : ℕ} (g : Ring) → refusalWithin m (ring g) ≡ 0 → LawfulRing m g
+unfolding refusalWithin offRange refusalsOf
+ring-lawful {m} g z =
+    let c = circle-lawful m (g .x) (g .y) (g .radius) (cond (ltb (g .width) 1 || ltb (g .radius) (g .width)) 11 0) z in
     let k = or-clear (ltb (g .width) 1) (ltb (g .radius) (g .width)) (clear (ltb (g .width) 1 || ltb (g .radius) (g .width)) 10 0 (c .1) .0) in
     record { circle = c .0; least = omega (arith, ltb-false (g .width) 1 (k .0)); most = omega (arith, ltb-false (g .radius) (g .width) (k .1)) }
+
+-- a shape that is lawful under a lesser greatest radius is lawful in a call
+wider : (m : ℕ) (s : Shape) → m ≤ radiusMost → refusalWithin m s ≡ 0 → shapeRefusal s ≡ 0
+unfolding refusalWithin offRange refusalsOf
+wider m s h = of s
+  where
+    circle : (a b : Bool) (r n : ℕ) → cond a 7 (cond b 10 (cond (ltb m r) 33 n)) ≡ 0 → cond a 7 (cond b 10 (cond (ltb radiusMost r) 33 n)) ≡ 0
+    circle a b r n z =
+        let x = clear a 6 _ z in
+        let y = clear b 9 _ (x .1) in
+        let u = clear (ltb m r) 32 n (y .1) in
+        simp (x .0, y .0, le-ltb radiusMost r (omega (arith, h, ltb-false m r (u .0)))) (u .1)
+
+    of : (s : Shape) → refusalWithin m s ≡ 0 → shapeRefusal s ≡ 0
+    of (line l) z = z
+    of (disc d) z = circle (outside (d .x) || outside (d .y)) (eqb (d .radius) 0) (d .radius) 0 z
+    of (ring g) z = circle (outside (g .x) || outside (g .y)) (eqb (g .radius) 0) (g .radius) _ z
+
+-- what a record may hold, a call may be handed
+pub record-shape : (s : Shape) → refusalWithin (radiusRoom s) s ≡ 0 → shapeRefusal s ≡ 0
+record-shape s = wider (radiusRoom s) s (room s)
+  where
+    room : (s : Shape) → radiusRoom s ≤ radiusMost
+    room (line l) = omega arith
+    room (disc d) = cond-le (d .big) (omega arith) (omega arith)
+    room (ring g) = cond-le (g .big) (omega arith) (omega arith)
 
 -- ---- a basis without a refusal has a lawful page
 pub basis-size : (b : Basis) → basisRefusal b ≡ 0 → sizeRefusal (b .w) (b .h) ≡ 0

@@ -2,7 +2,7 @@
 use mathlib.Core.Bool.{Bool, not, cond, _&&_, _||_}
 use mathlib.Core.List.{List, [], _∷_}
 use Prim.Native.Nat.{ℕ}
-use lib.Dec.{ltb, leb}
+use lib.Dec.{ltb, leb, eqb}
 use lib.IntN.{ℤ}
 use lib.Signed.{leZ}
 use Rattle.numbers.specs.Coordinate.{inRange}
@@ -51,12 +51,12 @@ offPage w h c = not (leb (c .x0) (c .x1) && leb (c .x1) w && leb (c .y0) (c .y1)
 abbrev pub same : ℤ → ℤ → Bool
 same a b = leZ a b && leZ b a
 
+-- the greatest radius; kinds 5 and 6 have one byte for it
 abbrev pub radiusMost : ℕ
-radiusMost = 255
+radiusMost = 1023
 
--- 10: a radius of 0 or above the greatest
-abbrev pub offRadius : ℕ → Bool
-offRadius r = ltb r 1 || ltb radiusMost r
+abbrev pub byteRadiusMost : ℕ
+byteRadiusMost = 255
 
 -- 31: a player above 7
 abbrev pub playerMost : ℕ
@@ -65,11 +65,12 @@ playerMost = 7
 abbrev pub offPlayer : ℕ → Bool
 offPlayer p = ltb playerMost p
 
--- what else is tried of a shape. 9: a line whose ends coincide. 11: a ring's width of 0 or above the radius
-unfoldable pub refusalsOf : Shape → List (Bool × ℕ)
-refusalsOf (line l) = (same (l .x0) (l .x1) && same (l .y0) (l .y1), 9) ∷ []
-refusalsOf (disc d) = (offRadius (d .radius), 10) ∷ []
-refusalsOf (ring g) = (offRadius (g .radius), 10) ∷ (ltb (g .width) 1 || ltb (g .radius) (g .width), 11) ∷ []
+-- what else is tried of a shape whose radius may be at most m. 9: a line whose ends coincide. 10: a radius of 0. 33: a radius above m.
+-- 11: a ring's width of 0 or above the radius
+unfoldable pub refusalsOf : ℕ → Shape → List (Bool × ℕ)
+refusalsOf m (line l) = (same (l .x0) (l .x1) && same (l .y0) (l .y1), 9) ∷ []
+refusalsOf m (disc d) = (eqb (d .radius) 0, 10) ∷ (ltb m (d .radius), 33) ∷ []
+refusalsOf m (ring g) = (eqb (g .radius) 0, 10) ∷ (ltb m (g .radius), 33) ∷ (ltb (g .width) 1 || ltb (g .radius) (g .width), 11) ∷ []
 
 -- the basis of version v and a page of w by h
 abbrev pub basisBy : ℕ → ℕ → ℕ → Basis
@@ -88,12 +89,25 @@ clipRefusal w h c = first ((offPage w h c, 8) ∷ [])
 unfoldable pub playerRefusal : ℕ → ℕ
 playerRefusal p = first ((offPlayer p, 31) ∷ [])
 
-unfoldable pub shapeRefusal : Shape → ℕ
-shapeRefusal s = first ((offRange s, 7) ∷ refusalsOf s)
+unfoldable pub refusalWithin : ℕ → Shape → ℕ
+refusalWithin m s = first ((offRange s, 7) ∷ refusalsOf m s)
+
+-- in a call a disc and a ring may have any radius, whichever kind they are
+abbrev pub shapeRefusal : Shape → ℕ
+shapeRefusal = refusalWithin radiusMost
+
+-- in a record they may have the radius that their kind has room for
+abbrev pub circleRoom : Bool → ℕ
+circleRoom big = cond big radiusMost byteRadiusMost
+
+abbrev pub radiusRoom : Shape → ℕ
+radiusRoom (line l) = radiusMost
+radiusRoom (disc d) = circleRoom (d .big)
+radiusRoom (ring g) = circleRoom (g .big)
 
 unfoldable pub recordRefusal : Basis → Record → ℕ
 recordRefusal b end = 0
 recordRefusal b (setting (clip c)) = clipRefusal (b .w) (b .h) c
 recordRefusal b (setting (level v)) = 0
 recordRefusal b (setting (player p)) = playerRefusal p
-recordRefusal b (shape s) = shapeRefusal s
+recordRefusal b (shape s) = refusalWithin (radiusRoom s) s

@@ -1,14 +1,16 @@
 // The shapes, the settings and the records of a drawing list, and the limits of each.
 use numbers::OFFSET_MOST;
 ghost use mathlib.Core.Path.{_≡_};
-ghost use Rattle.shapes.specs.Limits.{sizeRefusal, basisRefusal, clipRefusal, playerRefusal, shapeRefusal, recordRefusal};
+ghost use Rattle.shapes.specs.Limits.{sizeRefusal, basisRefusal, clipRefusal, playerRefusal, refusalWithin, shapeRefusal, circleRoom, radiusRoom, recordRefusal};
 ghost use Rattle.shapes.specs.inner.Offsets.{pointOf, endsOf};
 
 // The latest version of the format.
 pub const VERSION_MOST: u16 = 2;
 
-// The greatest radius.
-pub const RADIUS_MOST: u16 = 255;
+// The greatest radius, and the greatest that one byte of a record holds.
+pub const RADIUS_MOST: u16 = 1023;
+
+const BYTE_RADIUS_MOST: u16 = 255;
 
 // How many players there are.
 pub const PLAYERS: usize = 8;
@@ -24,10 +26,12 @@ pub struct Line {
     pub y1: i16,
 }
 
+// A disc and a ring are big where a record has two bytes for the radius, and as many for the width: kinds 8 and 9, and not 5 and 6.
 pub struct Disc {
     pub x: i16,
     pub y: i16,
     pub radius: u16,
+    pub big: bool,
 }
 
 pub struct Ring {
@@ -35,6 +39,7 @@ pub struct Ring {
     pub y: i16,
     pub radius: u16,
     pub width: u16,
+    pub big: bool,
 }
 
 pub enum Shape {
@@ -190,9 +195,9 @@ pub fn line_refusal(line: Line) -> u8
     9
 }
 
-// The first refusal of a disc, 7 or 10, or 0.
-pub fn disc_refusal(disc: Disc) -> u8
-    ensures { λ r. ⌜ r ≡ shapeRefusal (Shape.Disc disc) ⌝ }
+// The first refusal of a disc whose radius may be at most `most`: 7, 10 or 33, or 0.
+pub fn disc_refusal(disc: Disc, most: u16) -> u8
+    ensures { λ r. ⌜ r ≡ refusalWithin most (Shape.Disc disc) ⌝ }
 {
     let p = point_of(disc.x, disc.y);
     if OFFSET_MOST < p.x {
@@ -201,24 +206,28 @@ pub fn disc_refusal(disc: Disc) -> u8
     if OFFSET_MOST < p.y {
         return 7;
     }
-    if disc.radius < 1 {
+    if disc.radius == 0 {
         return 10;
     }
-    if RADIUS_MOST < disc.radius {
-        return 10;
+    if most < disc.radius {
+        return 33;
     }
     0
 }
 
 // The first refusal of a ring: that of its disc, then 11, or 0.
-pub fn ring_refusal(ring: Ring) -> u8
-    ensures { λ r. ⌜ r ≡ shapeRefusal (Shape.Ring ring) ⌝ }
+pub fn ring_refusal(ring: Ring, most: u16) -> u8
+    ensures { λ r. ⌜ r ≡ refusalWithin most (Shape.Ring ring) ⌝ }
 {
-    let outer = disc_refusal(Disc {
-        x: ring.x,
-        y: ring.y,
-        radius: ring.radius,
-    });
+    let outer = disc_refusal(
+        Disc {
+            x: ring.x,
+            y: ring.y,
+            radius: ring.radius,
+            big: ring.big,
+        },
+        most,
+    );
     if 0 < outer {
         return outer;
     }
@@ -231,18 +240,36 @@ pub fn ring_refusal(ring: Ring) -> u8
     0
 }
 
-// The first refusal of a shape, 7, 9, 10 or 11, or 0.
-pub fn shape_refusal(shape: Shape) -> u8
-    ensures { λ r. ⌜ r ≡ shapeRefusal shape ⌝ }
+// The first refusal of a shape whose radius may be at most `most`: 7, 9, 10, 33 or 11, or 0.
+pub fn shape_refusal(shape: Shape, most: u16) -> u8
+    ensures { λ r. ⌜ r ≡ refusalWithin most shape ⌝ }
 {
     match shape {
         Shape::Line(line) => line_refusal(line),
-        Shape::Disc(disc) => disc_refusal(disc),
-        Shape::Ring(ring) => ring_refusal(ring),
+        Shape::Disc(disc) => disc_refusal(disc, most),
+        Shape::Ring(ring) => ring_refusal(ring, most),
     }
 }
 
-// The first refusal of a record, 7 to 11 or 31, or 0.
+// The greatest radius of a record of a disc or a ring.
+fn circle_room(big: bool) -> u16
+    ensures { λ r. ⌜ r ≡ circleRoom big ⌝ }
+{
+    if big { RADIUS_MOST } else { BYTE_RADIUS_MOST }
+}
+
+// The greatest radius of the record of a shape; a line has none that could be too great.
+fn radius_room(shape: Shape) -> u16
+    ensures { λ r. ⌜ r ≡ radiusRoom shape ⌝ }
+{
+    match shape {
+        Shape::Line(_) => RADIUS_MOST,
+        Shape::Disc(disc) => circle_room(disc.big),
+        Shape::Ring(ring) => circle_room(ring.big),
+    }
+}
+
+// The first refusal of a record: 7, 8, 9, 10, 33, 11 or 31, or 0.
 pub fn record_refusal(basis: Basis, rec: Record) -> u8
     ensures { λ r. ⌜ r ≡ recordRefusal basis rec ⌝ }
 {
@@ -253,6 +280,6 @@ pub fn record_refusal(basis: Basis, rec: Record) -> u8
             Setting::Level(_) => 0,
             Setting::Player(player) => player_refusal(player),
         },
-        Record::Shape(shape) => shape_refusal(shape),
+        Record::Shape(shape) => shape_refusal(shape, radius_room(shape)),
     }
 }

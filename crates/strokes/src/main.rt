@@ -32,6 +32,7 @@ fn print_disc(cx: i16, cy: i16, radius: u16, x: i16, y: i16) {
         x: cx,
         y: cy,
         radius,
+        big: false,
     };
     print_answer(coverage::coverage(shapes::Shape::Disc(disc), x, y));
 }
@@ -42,15 +43,19 @@ fn print_ring(cx: i16, cy: i16, radius: u16, width: u16, x: i16, y: i16) {
         y: cy,
         radius,
         width,
+        big: false,
     };
     print_answer(coverage::coverage(shapes::Shape::Ring(ring), x, y));
 }
 
 fn main() {
-    // radius 255 is drawn, 256 and 0 are refused
-    print_disc(0, 0, 255, 0, 0);
-    print_disc(0, 0, 256, 0, 0);
+    // radius 1,023 is drawn, 1,024 and 0 are refused
+    print_disc(0, 0, 1023, 0, 0);
+    print_disc(0, 0, 1024, 0, 0);
     print_disc(0, 0, 0, 0, 0);
+    // a height that is rounded up to a row line, and one that is rounded down to one
+    print_disc(0, 0, 257, 0, 256);
+    print_disc(0, 0, 273, 52, 268);
     // coordinate 4,095 is drawn, 4,096 is refused, of the shape and of the pixel
     print_line(true, 4094, 4094, 4095, 4095, 4094, 4094);
     print_line(true, 4094, 4094, 4096, 4095, 4094, 4094);

@@ -3,10 +3,12 @@
 //! A line takes the closed form of each column, with a division for q and r, a clip test for each
 //! pixel and a division for each blend. A circle works out its heights by the processor's square
 //! root and draws each row of its box: the inside filled, the edges left and right of the centre
-//! from one coverage. In light each blend is a binary search over the middles between neighbouring
-//! lights, by cross products.
+//! from one coverage. Heights are in an array on the stack, a shorter one for the radii of one byte.
+//! In light each blend is a binary search over the middles between neighbouring lights, by cross
+//! products.
 
 use greystroke::{Clip, Disc, Lights, Line, Refusal, Ring, Shape, Size};
+use std::ops::Range;
 
 /// What [`greystroke::draw_shape`] does with lights equal to codes, which need no look at them.
 pub fn draw_shape(
@@ -58,12 +60,13 @@ pub(crate) fn paint<I: Ink>(page: &mut [u8], size: Size, clip: Clip, ink: I, sha
     };
     match shape {
         Shape::Line(line) => draw_line(&mut canvas, line),
-        Shape::Disc(Disc { x, y, radius }) => draw_ring(&mut canvas, x, y, radius, 0),
+        Shape::Disc(Disc { x, y, radius, .. }) => draw_ring(&mut canvas, x, y, radius, 0),
         Shape::Ring(Ring {
             x,
             y,
             radius,
             width,
+            ..
         }) => draw_ring(&mut canvas, x, y, radius, radius - width),
     }
 }
@@ -115,7 +118,11 @@ pub(crate) fn shape_refusal(shape: Shape) -> Option<Refusal> {
 }
 
 fn radius_refusal(radius: u16) -> Option<Refusal> {
-    (!(1..=255).contains(&radius)).then_some(Refusal::Radius)
+    match radius {
+        0 => Some(Refusal::Radius),
+        1..=1023 => None,
+        _ => Some(Refusal::RadiusTooLarge),
+    }
 }
 
 /// A level, and how a byte is blended with it.
@@ -299,17 +306,17 @@ fn draw_line<I: Ink>(canvas: &mut Canvas<I>, line: Line) -> u64 {
     touched
 }
 
-/// The heights of one circle, 256 times as high.
-struct Circle {
+/// The heights of one circle, 256 times as high: more than its radius, as those past it are 0.
+struct Circle<const HEIGHTS: usize> {
     radius: usize,
-    heights: [u32; 257],
+    heights: [u32; HEIGHTS],
 }
 
-impl Circle {
-    fn of(radius: u16) -> Circle {
+impl<const HEIGHTS: usize> Circle<HEIGHTS> {
+    fn of(radius: u16) -> Circle<HEIGHTS> {
         let mut circle = Circle {
             radius: radius.into(),
-            heights: [0; 257],
+            heights: [0; HEIGHTS],
         };
         let square = i64::from(radius) * i64::from(radius);
         for (k, height) in (0..i64::from(radius)).zip(&mut circle.heights) {
@@ -370,20 +377,33 @@ fn draw_ring<I: Ink>(canvas: &mut Canvas<I>, x: i16, y: i16, radius: u16, hole: 
     if top >= bottom || x + reach <= canvas.left || canvas.right <= x - reach {
         return 0;
     }
-    let outer = Circle::of(radius);
-    let rows = top..bottom;
+    // It would take longer to clear a long array than to draw a small circle.
+    match radius {
+        0..=255 => draw_rows::<I, 257>(canvas, (x, y), top..bottom, radius, hole),
+        _ => draw_rows::<I, 1025>(canvas, (x, y), top..bottom, radius, hole),
+    }
+}
+
+fn draw_rows<I: Ink, const HEIGHTS: usize>(
+    canvas: &mut Canvas<I>,
+    (x, y): (i64, i64),
+    rows: Range<i64>,
+    radius: u16,
+    hole: u16,
+) -> u64 {
+    let outer = Circle::<HEIGHTS>::of(radius);
     if hole == 0 {
         let rows = rows.map(|row| draw_disc_row(canvas, &outer, x, row, apart(y, row)));
         return rows.sum();
     }
-    let inner = Circle::of(hole);
+    let inner = Circle::<HEIGHTS>::of(hole);
     let rows = rows.map(|row| draw_ring_row(canvas, &outer, &inner, x, row, apart(y, row)));
     rows.sum()
 }
 
-fn draw_disc_row<I: Ink>(
+fn draw_disc_row<I: Ink, const HEIGHTS: usize>(
     canvas: &mut Canvas<I>,
-    circle: &Circle,
+    circle: &Circle<HEIGHTS>,
     x: i64,
     y: i64,
     down: usize,
@@ -396,10 +416,10 @@ fn draw_disc_row<I: Ink>(
 }
 
 /// A row past the hole needs no heights of the inner circle.
-fn draw_ring_row<I: Ink>(
+fn draw_ring_row<I: Ink, const HEIGHTS: usize>(
     canvas: &mut Canvas<I>,
-    outer: &Circle,
-    inner: &Circle,
+    outer: &Circle<HEIGHTS>,
+    inner: &Circle<HEIGHTS>,
     x: i64,
     y: i64,
     down: usize,

@@ -125,6 +125,8 @@ fn decode(bytes: &[u8], version: u16) -> Result<(Record, usize), Refusal> {
         5 => 6,
         6 => 7,
         7 if version == 2 => 2,
+        8 if version == 2 => 7,
+        9 if version == 2 => 9,
         _ => return Err(Refusal::UnknownKind),
     };
     let bytes = bytes.get(..length).ok_or(Refusal::CutShort)?;
@@ -145,18 +147,21 @@ fn decode(bytes: &[u8], version: u16) -> Result<(Record, usize), Refusal> {
 
 fn decode_shape(bytes: &[u8]) -> Shape {
     let (x, y) = (signed(bytes, 1), signed(bytes, 3));
+    let disc = |radius, big| Shape::Disc(Disc { x, y, radius, big });
+    let ring = |radius, width, big| {
+        Shape::Ring(Ring {
+            x,
+            y,
+            radius,
+            width,
+            big,
+        })
+    };
     match bytes[0] {
-        5 => Shape::Disc(Disc {
-            x,
-            y,
-            radius: bytes[5].into(),
-        }),
-        6 => Shape::Ring(Ring {
-            x,
-            y,
-            radius: bytes[5].into(),
-            width: bytes[6].into(),
-        }),
+        5 => disc(bytes[5].into(), false),
+        6 => ring(bytes[5].into(), bytes[6].into(), false),
+        8 => disc(word(bytes, 5), true),
+        9 => ring(word(bytes, 5), word(bytes, 7), true),
         kind => Shape::Line(Line {
             exact: kind == 3,
             x0: x,

@@ -34,6 +34,13 @@ pub fn kind(shape: &Shape) -> &'static str {
     }
 }
 
+/// Whether one byte holds the radius, and how many bytes it would be written in.
+pub fn bytes_class(radius: u16, big: bool) -> String {
+    let radius = if radius > 255 { "above" } else { "up to" };
+    let bytes = if big { "two bytes" } else { "one byte" };
+    format!("of a radius {radius} 255 for {bytes}")
+}
+
 /// The spans of a line, with their signs.
 pub fn signed_spans(line: &Line) -> (i64, i64) {
     let span = |from: i16, to: i16| i64::from(to) - i64::from(from);

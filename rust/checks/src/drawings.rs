@@ -12,13 +12,13 @@ const UNLAWFUL_SIDES: [u16; 3] = [0, 1025, u16::MAX];
 /// The reference asks every pixel of the clip, so that a clip is kept small on any page.
 pub(crate) const LONGEST_CLIP: i64 = 24;
 
-/// A page, lights, a clip, a level and a shape; about one in three is turned down. What the lights
+/// A page, lights, a clip, a level and a shape; about two in five are turned down. What the lights
 /// are called comes with it.
 pub fn drawing(random: &mut Random) -> (&'static str, ShapeCall) {
     let (width, height) = sides(random);
     let page = page(random, width, height);
     let (name, mut lights) = fit_lights(random);
-    if random.one_in(16) {
+    if random.one_in(12) {
         spoil_lights(random, &mut lights);
     }
     let mut clip = clip(random, width, height);
@@ -27,7 +27,7 @@ pub fn drawing(random: &mut Random) -> (&'static str, ShapeCall) {
     if random.one_in(12) {
         spoil_clip(random, &mut clip, width, height);
     }
-    if random.one_in(12) {
+    if random.one_in(8) {
         spoil_shape(random, &mut shape);
     }
     let any = random.between(0, 255) as u8;
@@ -133,10 +133,10 @@ pub(crate) fn point_near(random: &mut Random, clip: &Clip) -> (i64, i64) {
 }
 
 pub(crate) fn shape(random: &mut Random, near: (i64, i64), clip: &Clip) -> Shape {
-    match random.between(0, 9) {
+    match random.between(0, 11) {
         0..=5 => Shape::Line(line(random, near)),
         6 => Shape::Line(line_between(random, near, last_corner(clip))),
-        7 | 8 => Shape::Disc(disc(random, near)),
+        7..=9 => Shape::Disc(disc(random, near)),
         _ => {
             let disc = disc(random, near);
             Shape::Ring(ring(random, disc))
@@ -189,9 +189,12 @@ pub(crate) fn line_between(random: &mut Random, one: (i64, i64), other: (i64, i6
 
 /// A disc about the point, or one whose edge passes it.
 fn disc(random: &mut Random, (x, y): (i64, i64)) -> Disc {
-    let short = random.between(1, 12) as u16;
-    let any = random.between(1, 255) as u16;
-    let radius = random.pick(&[1, 255, short, short, any, any]);
+    let radius = match random.between(0, 9) {
+        0..=2 => random.pick(&[1, 254, 255, 256, 257, 1022, 1023]),
+        3..=5 => random.between(1, 12) as u16,
+        6..=8 => random.between(1, 255) as u16,
+        _ => random.between(256, 1023) as u16,
+    };
     let (across, down) = match random.one_in(4) {
         true => (0, 0),
         false => on_circle(random, 0, 0, radius),
@@ -200,17 +203,19 @@ fn disc(random: &mut Random, (x, y): (i64, i64)) -> Disc {
         x: clamped(x - across),
         y: clamped(y - down),
         radius,
+        big: random.flip(),
     }
 }
 
 fn ring(random: &mut Random, disc: Disc) -> Ring {
-    let Disc { x, y, radius } = disc;
+    let Disc { x, y, radius, big } = disc;
     let any = random.between(1, i64::from(radius)) as u16;
     Ring {
         x,
         y,
         radius,
         width: random.pick(&[1, radius, any, any, any.min(3)]),
+        big,
     }
 }
 
@@ -219,7 +224,7 @@ fn spoil_shape(random: &mut Random, shape: &mut Shape) {
     if random.one_in(3) {
         return push_outside(random, shape);
     }
-    let radius = random.pick(&[0, 256, u16::MAX]);
+    let radius = random.pick(&[0, 0, 1024, u16::MAX]);
     match shape {
         Shape::Line(line) => (line.x1, line.y1) = (line.x0, line.y0),
         Shape::Disc(disc) => disc.radius = radius,

@@ -186,12 +186,14 @@ fn reference_shape(shape: greystroke::Shape) -> Shape {
             x: disc.x,
             y: disc.y,
             radius: disc.radius,
+            big: disc.big,
         }),
         greystroke::Shape::Ring(ring) => Shape::Ring(Ring {
             x: ring.x,
             y: ring.y,
             radius: ring.radius,
             width: ring.width,
+            big: ring.big,
         }),
     }
 }
@@ -220,12 +222,14 @@ fn library_shape(shape: &Shape) -> greystroke::Shape {
             x: disc.x,
             y: disc.y,
             radius: disc.radius,
+            big: disc.big,
         }),
         Shape::Ring(ring) => greystroke::Shape::Ring(greystroke::Ring {
             x: ring.x,
             y: ring.y,
             radius: ring.radius,
             width: ring.width,
+            big: ring.big,
         }),
     }
 }

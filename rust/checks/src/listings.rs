@@ -38,13 +38,13 @@ pub fn lawful_version(random: &mut Random) -> u16 {
 /// Any record, refused in a list of this version and page or not.
 pub fn record(random: &mut Random, basis: Basis) -> Record {
     let Basis { width, height, .. } = basis;
-    let mut shape = match random.between(0, 11) {
+    let mut shape = match random.between(0, 12) {
         0 => return Record::End,
         1 => return Record::Setting(Setting::Level(random.bits() as u8)),
         2 | 3 => return Record::Setting(Setting::Clip(clip(random, width, height))),
         4 | 5 => return Record::Setting(Setting::Player(player(random))),
         6..=8 => Shape::Line(line(random)),
-        9 => Shape::Disc(disc(random)),
+        9 | 10 => Shape::Disc(disc(random)),
         _ => Shape::Ring(ring(random)),
     };
     if random.one_in(8) {
@@ -80,12 +80,17 @@ fn clip(random: &mut Random, width: u16, height: u16) -> Clip {
 pub fn lawful_record(random: &mut Random, basis: Basis) -> Record {
     loop {
         let record = record(random, basis);
-        let refusal = kind_refusal(kind_of(&record), basis.version)
-            .or_else(|| record.first_refusal(basis.width, basis.height));
-        if record != Record::End && refusal.is_none() {
+        if record != Record::End && !is_refused(&record, basis) {
             return record;
         }
     }
+}
+
+/// Whether a list of this version with a page of lawful size cannot hold the record.
+pub(crate) fn is_refused(record: &Record, basis: Basis) -> bool {
+    let refusal = kind_refusal(kind_of(record), basis.version)
+        .or_else(|| record.first_refusal(basis.width, basis.height));
+    refusal.is_some()
 }
 
 /// A record for a list: one in twenty may have a refusal, or be an end record before the last.
@@ -101,11 +106,11 @@ fn listed_record(random: &mut Random, basis: Basis) -> Record {
     }
 }
 
-/// A list has one byte for a radius and for a width.
+/// A list has one byte for a radius and for a width, and two in the records of big shapes.
 fn fits_its_bytes(record: &Record) -> bool {
     match record {
-        Record::Shape(Shape::Disc(disc)) => disc.radius < 256,
-        Record::Shape(Shape::Ring(ring)) => ring.radius < 256 && ring.width < 256,
+        Record::Shape(Shape::Disc(disc)) => disc.big || disc.radius < 256,
+        Record::Shape(Shape::Ring(ring)) => ring.big || ring.radius.max(ring.width) < 256,
         _ => true,
     }
 }
@@ -130,7 +135,7 @@ pub fn list(random: &mut Random) -> Vec<u8> {
 pub fn damage(random: &mut Random, list: &mut Vec<u8>) {
     let place = random.between(0, list.len() as i64 - 1) as usize;
     let any = random.bits() as u8;
-    let byte = random.pick(&[0, 1, 2, 7, 16, 0xF0, 0xFF, any]);
+    let byte = random.pick(&[0, 1, 2, 4, 7, 8, 9, 10, 16, 0xF0, 0xFF, any]);
     match random.between(0, 6) {
         0 => list.truncate(place),
         1 => list.push(byte),

@@ -40,8 +40,8 @@ pub fn parse_shape(text: &str) -> Shape {
                 y1,
             })
         }
-        "disc" => parse_disc(fields),
-        "ring" => parse_ring(fields),
+        "disc" | "bigdisc" => parse_disc(fields, kind == "bigdisc"),
+        "ring" | "bigring" => parse_ring(fields, kind == "bigring"),
         _ => panic!("no shape is called `{kind}`"),
     }
 }
@@ -53,22 +53,24 @@ pub fn parse_line(text: &str) -> Line {
     }
 }
 
-fn parse_disc(fields: &str) -> Shape {
+fn parse_disc(fields: &str, big: bool) -> Shape {
     let [x, y, radius]: [i32; 3] = numbers(fields);
     Shape::Disc(Disc {
         x: narrow(x),
         y: narrow(y),
         radius: narrow(radius),
+        big,
     })
 }
 
-fn parse_ring(fields: &str) -> Shape {
+fn parse_ring(fields: &str, big: bool) -> Shape {
     let [x, y, radius, width]: [i32; 4] = numbers(fields);
     Shape::Ring(Ring {
         x: narrow(x),
         y: narrow(y),
         radius: narrow(radius),
         width: narrow(width),
+        big,
     })
 }
 
@@ -126,7 +128,16 @@ fn show_shape(shape: &Shape) -> String {
             let kind = if line.exact { "exact" } else { "approx" };
             format!("{kind} {} {} {} {}", line.x0, line.y0, line.x1, line.y1)
         }
-        Shape::Disc(disc) => format!("disc {} {} {}", disc.x, disc.y, disc.radius),
-        Shape::Ring(ring) => format!("ring {} {} {} {}", ring.x, ring.y, ring.radius, ring.width),
+        Shape::Disc(disc) => {
+            let kind = if disc.big { "bigdisc" } else { "disc" };
+            format!("{kind} {} {} {}", disc.x, disc.y, disc.radius)
+        }
+        Shape::Ring(ring) => {
+            let kind = if ring.big { "bigring" } else { "ring" };
+            format!(
+                "{kind} {} {} {} {}",
+                ring.x, ring.y, ring.radius, ring.width
+            )
+        }
     }
 }

@@ -1,10 +1,10 @@
 //! Random lists that are accepted and whose shapes meet their page, and pages to draw them on.
 
 use crate::drawings::{clip, point_near, shape, sides, LONGEST_CLIP};
-use crate::listings::lawful_version;
+use crate::listings::{is_refused, lawful_version};
 use crate::random::Random;
 use reference::format::{encode_header, encode_record, Header};
-use reference::shape::{page_size_refusal, Clip, Disc, Line, Record, Ring, Setting, Shape};
+use reference::shape::{page_size_refusal, Basis, Clip, Disc, Line, Record, Ring, Setting, Shape};
 
 /// A list, and what it is made of.
 pub struct Listed {
@@ -23,6 +23,12 @@ pub fn picture(random: &mut Random) -> Listed {
 /// The same of one version.
 pub fn picture_of(random: &mut Random, version: u16) -> Listed {
     let (width, height) = lawful_sides(random);
+    let header = Header {
+        version,
+        width,
+        height,
+        background: level(random),
+    };
     let mut clip_now = Clip::whole(width, height);
     let mut records = Vec::new();
     // The reference asks every pixel of the clip, so that a large page starts with a small clip.
@@ -38,16 +44,9 @@ pub fn picture_of(random: &mut Random, version: u16) -> Listed {
             }
             1 => Record::Setting(Setting::Level(level(random))),
             2 if version == 2 => Record::Setting(Setting::Player(player(random))),
-            _ => Record::Shape(shape_about(random, &clip_now)),
+            _ => shape_about(random, header.basis(), &clip_now),
         });
     }
-    let background = level(random);
-    let header = Header {
-        version,
-        width,
-        height,
-        background,
-    };
     listed(header, records)
 }
 
@@ -69,12 +68,13 @@ fn player(random: &mut Random) -> u8 {
     random.between(0, 7) as u8
 }
 
-fn shape_about(random: &mut Random, clip: &Clip) -> Shape {
+/// A shape that a list of this version can hold.
+fn shape_about(random: &mut Random, basis: Basis, clip: &Clip) -> Record {
     loop {
         let near = point_near(random, clip);
-        let shape = shape(random, near, clip);
-        if shape.first_refusal().is_none() {
-            return shape;
+        let record = Record::Shape(shape(random, near, clip));
+        if !is_refused(&record, basis) {
+            return record;
         }
     }
 }
@@ -106,23 +106,25 @@ pub fn small_picture(random: &mut Random) -> Listed {
         if header.version == 2 {
             records.push(Record::Setting(Setting::Player(player(random))));
         }
-        records.push(Record::Shape(short_shape(random)));
+        let big = header.version == 2 && random.flip();
+        records.push(Record::Shape(short_shape(random, big)));
     }
     listed(header, records)
 }
 
 /// Mostly a line, as only a line is drawn with other than its exact coverage.
-fn short_shape(random: &mut Random) -> Shape {
+fn short_shape(random: &mut Random, big: bool) -> Shape {
     let mut corner = || random.between(-2, 10) as i16;
     let (x, y, x1, y1) = (corner(), corner(), corner(), corner());
     let radius = random.between(1, 6) as u16;
     match random.between(0, 7) {
-        0 => Shape::Disc(Disc { x, y, radius }),
+        0 => Shape::Disc(Disc { x, y, radius, big }),
         1 => Shape::Ring(Ring {
             x,
             y,
             radius,
             width: random.between(1, i64::from(radius)) as u16,
+            big,
         }),
         _ => Shape::Line(Line {
             exact: random.flip(),

@@ -5,7 +5,22 @@ use reference::shape::{Disc, Line, Ring, Shape};
 
 const EDGES: [i16; 9] = [-4096, -4095, -1024, -1, 0, 1, 1024, 4094, 4095];
 pub(crate) const OUTSIDE: [i16; 4] = [i16::MIN, -4097, 4096, i16::MAX];
-const RADII: [u16; 9] = [0, 1, 2, 3, 5, 254, 255, 256, u16::MAX];
+/// The smallest, and those about the largest of one byte, the largest and the largest of two bytes.
+const RADII: [u16; 13] = [
+    0,
+    1,
+    2,
+    3,
+    5,
+    254,
+    255,
+    256,
+    257,
+    1022,
+    1023,
+    1024,
+    u16::MAX,
+];
 
 /// A number that may have left 16 bits, brought back into them.
 pub(crate) fn clamped(value: i64) -> i16 {
@@ -89,10 +104,11 @@ fn long_spans(random: &mut Random, x0: i16, y0: i16) -> (i64, i64) {
 }
 
 fn radius(random: &mut Random) -> u16 {
-    match random.between(0, 2) {
+    match random.between(0, 3) {
         0 => random.pick(&RADII),
         1 => random.between(1, 12) as u16,
-        _ => random.between(1, 255) as u16,
+        2 => random.between(1, 255) as u16,
+        _ => random.between(256, 1023) as u16,
     }
 }
 
@@ -101,11 +117,12 @@ pub fn disc(random: &mut Random) -> Disc {
         x: coordinate(random),
         y: coordinate(random),
         radius: radius(random),
+        big: random.flip(),
     }
 }
 
 pub fn ring(random: &mut Random) -> Ring {
-    let Disc { x, y, radius } = disc(random);
+    let Disc { x, y, radius, big } = disc(random);
     let narrow = random.between(1, i64::from(radius.max(1))) as u16;
     let beyond = radius.saturating_add(1);
     let width = random.pick(&[0, 1, narrow, narrow, radius, beyond, u16::MAX]);
@@ -114,6 +131,7 @@ pub fn ring(random: &mut Random) -> Ring {
         y,
         radius,
         width,
+        big,
     }
 }
 
@@ -165,7 +183,7 @@ fn on_line(random: &mut Random, line: &Line) -> (i64, i64) {
 
 /// A point on the circle, or for one in four inside it.
 pub(crate) fn on_circle(random: &mut Random, x: i16, y: i16, radius: u16) -> (i64, i64) {
-    let radius = i64::from(radius.min(300));
+    let radius = i64::from(radius.min(1100));
     let across = random.between(-radius, radius);
     let down = (radius * radius - across * across).isqrt();
     let down = match random.between(0, 3) {

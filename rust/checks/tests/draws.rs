@@ -3,16 +3,16 @@
 
 use checks::calls::answer;
 use checks::cases::rows;
-use checks::classes::{direction, directions, kind, signed_spans, Tally};
+use checks::classes::{bytes_class, direction, directions, kind, signed_spans, Tally};
 use checks::drawings::drawing;
 use checks::lights::{fit_lights, named, rising_lights, spoil_lights, FIT, UNFIT};
 use checks::random::Random;
 use checks::rows::ShapeCall;
 use checks::{library, reference_page};
 use greystroke::Lights;
-use reference::coverage::exact_coverage;
+use reference::coverage::{exact_coverage, height, query};
 use reference::lights::lights_refusal;
-use reference::page::page_length;
+use reference::page::{blend, page_length};
 use reference::refusal::Refused;
 use reference::shape::{page_size_refusal, Clip, Disc, Line, Ring, Shape};
 
@@ -24,10 +24,27 @@ type Answer = Result<u64, Refused>;
 
 /// Refusals that a run must meet.
 fn wanted_refusals() -> Vec<String> {
-    let refusals = [3, 21, 32, 8, 7, 9, 10, 11];
+    let refusals = [3, 21, 32, 8, 7, 9, 10, 33, 11];
     let mut wanted: Vec<String> = refusals.map(|n| format!("refused {n}")).into();
-    let pairs = [(3, 8), (3, 9), (21, 8), (21, 7), (8, 7), (8, 9), (8, 10)];
-    let of_lights = [(3, 32), (21, 32), (32, 8), (32, 7), (32, 9), (32, 10)];
+    let pairs = [
+        (3, 8),
+        (3, 9),
+        (21, 8),
+        (21, 7),
+        (8, 7),
+        (8, 9),
+        (8, 10),
+        (8, 33),
+    ];
+    let of_lights = [
+        (3, 32),
+        (21, 32),
+        (32, 8),
+        (32, 7),
+        (32, 9),
+        (32, 10),
+        (32, 33),
+    ];
     let pairs = pairs.into_iter().chain(of_lights);
     wanted.extend(pairs.map(|(first, next)| format!("refused {first} before {next}")));
     let sides = ["W is 0", "W is 1025", "H is 0", "H is 1025"];
@@ -66,7 +83,13 @@ fn wanted() -> Vec<String> {
         let spans = ["l = 1", "longest span", "with both ends far off"];
         wanted.extend(spans.map(|class| format!("{kind} {class}")));
     }
-    wanted.extend(["radius 1", "radius 255", "whole pixels"].map(|what| format!("disc of {what}")));
+    for kind in ["disc", "ring"] {
+        let radii = [1, 254, 255, 256, 257, 1022, 1023];
+        wanted.extend(radii.map(|radius| format!("{kind} of radius {radius}")));
+        let sizes = [(255, false), (255, true), (1023, false), (1023, true)];
+        wanted.extend(sizes.map(|(radius, big)| format!("{kind} {}", bytes_class(radius, big))));
+    }
+    wanted.push("disc of whole pixels".to_string());
     wanted.extend(["width 1", "width the radius", "a hole"].map(|what| format!("ring of {what}")));
     wanted
 }
@@ -181,7 +204,7 @@ fn shape_classes(call: &ShapeCall) -> Vec<String> {
     match &call.shape {
         Shape::Line(line) => line_classes(call, line),
         Shape::Disc(disc) => {
-            let mut classes = vec![format!("of radius {}", disc.radius)];
+            let mut classes = radius_classes(disc.radius, disc.big);
             if any_pixel(call, |n| n == 512) {
                 classes.push("of whole pixels".to_string());
             }
@@ -212,8 +235,13 @@ fn line_classes(call: &ShapeCall, line: &Line) -> Vec<String> {
     classes
 }
 
+fn radius_classes(radius: u16, big: bool) -> Vec<String> {
+    vec![format!("of radius {radius}"), bytes_class(radius, big)]
+}
+
 fn ring_classes(call: &ShapeCall, ring: &Ring) -> Vec<String> {
-    let mut classes = vec![format!("of width {}", ring.width)];
+    let mut classes = radius_classes(ring.radius, ring.big);
+    classes.push(format!("of width {}", ring.width));
     if ring.width == ring.radius {
         classes.push("of width the radius".to_string());
     }
@@ -277,19 +305,27 @@ fn random_draws_agree() {
     tally.require(wanted(), LEAST);
 }
 
+fn disc(x: i16, y: i16, radius: u16) -> Shape {
+    let big = radius > 255;
+    Shape::Disc(Disc { x, y, radius, big })
+}
+
+fn ring(x: i16, y: i16, radius: u16, width: u16) -> Shape {
+    Shape::Ring(Ring {
+        x,
+        y,
+        radius,
+        width,
+        big: radius > 255,
+    })
+}
+
 /// A disc and rings of several widths.
 fn circles(middle: i16, radius: u16) -> Vec<Shape> {
-    let (x, y) = (middle, middle);
     let widths = [1, radius / 2, radius - 1, radius];
-    let rings = widths.into_iter().filter(|width| *width > 0).map(|width| {
-        Shape::Ring(Ring {
-            x,
-            y,
-            radius,
-            width,
-        })
-    });
-    [Shape::Disc(Disc { x, y, radius })]
+    let lawful = widths.into_iter().filter(|width| *width > 0);
+    let rings = lawful.map(|width| ring(middle, middle, radius, width));
+    [disc(middle, middle, radius)]
         .into_iter()
         .chain(rings)
         .collect()
@@ -324,6 +360,35 @@ fn circles_at_the_sides_of_a_clip_agree() {
     }
 }
 
+/// Larger circles under strips of three columns or rows about each of their four sides, which the
+/// page has or cuts.
+#[test]
+fn large_circles_at_their_sides_agree() {
+    let (side, middle) = (1024, 512);
+    for radius in [254, 255, 256, 257, 511, 512, 513, 1023] {
+        let near = |edge: i32| {
+            let low = (edge - 1).clamp(0, i32::from(side) - 3) as u16;
+            (low, low + 3)
+        };
+        let edges = [middle - i32::from(radius), middle + i32::from(radius) - 1];
+        for (shape, (low, high)) in circles(middle as i16, radius)
+            .into_iter()
+            .flat_map(|shape| edges.map(|edge| (shape, near(edge))))
+        {
+            let whole = Clip::whole(side, side);
+            let (x0, x1, y0, y1) = (low, high, low, high);
+            for clip in [Clip { x0, x1, ..whole }, Clip { y0, y1, ..whole }] {
+                let call = ShapeCall {
+                    clip,
+                    ..call_of(side, 90, named("gamma"), 200, shape)
+                };
+                let (_, answer) = agreed(&call);
+                assert!(answer.is_ok(), "{}", describe(&call));
+            }
+        }
+    }
+}
+
 #[test]
 fn stored_rows_agree() {
     let rows = rows("draws");
@@ -331,7 +396,7 @@ fn stored_rows_agree() {
         let found = answer(&format!("draws {}", row.call));
         assert_eq!(found, row.answer, "{}", row.call);
     }
-    assert_eq!(rows.len(), 392);
+    assert_eq!(rows.len(), 539);
 }
 
 /// A page of one level and one shape on it, under a whole clip.
@@ -365,13 +430,8 @@ fn line(exact: bool, x0: i16, y0: i16, x1: i16, y1: i16) -> Shape {
 
 /// Lines and a disc whose every coverage is a half.
 fn halves() -> [Shape; 3] {
-    let disc = Disc {
-        x: 1,
-        y: 1,
-        radius: 1,
-    };
     let (exact, approximate) = (line(true, 0, 1, 2, 1), line(false, 2, 1, 0, 1));
-    [exact, approximate, Shape::Disc(disc)]
+    [exact, approximate, disc(1, 1, 1)]
 }
 
 #[test]
@@ -390,30 +450,95 @@ fn refused(number: u64) -> Answer {
     Err(Refused { number, place: 0 })
 }
 
-#[test]
-fn radius_255_is_drawn_and_256_refused() {
-    let disc = |radius| {
-        Shape::Disc(Disc {
-            x: 128,
-            y: 128,
-            radius,
-        })
-    };
-    let ring = |radius| {
+/// A disc and a ring of these, each for one byte and for two.
+fn of_either_size(radius: u16, width: u16) -> [Shape; 4] {
+    let (x, y) = (128, 128);
+    let disc = |big| Shape::Disc(Disc { x, y, radius, big });
+    let ring = |big| {
         Shape::Ring(Ring {
-            x: 128,
-            y: 128,
+            x,
+            y,
             radius,
-            width: radius,
+            width,
+            big,
         })
     };
-    for shape in [disc(255), ring(255)] {
-        // The page's corners are sqrt(2)·128 from the centre, well within 255.
-        assert_eq!(drawn(256, 0, 9, shape), (Ok(65_536), vec![9; 65_536]));
+    [disc(false), disc(true), ring(false), ring(true)]
+}
+
+/// Whatever kind the shape would be written as.
+#[test]
+fn radius_1023_is_drawn_and_1024_refused() {
+    for radius in [255, 256, 1022, 1023] {
+        for shape in of_either_size(radius, radius) {
+            // The page's corners are sqrt(2)·128 from the centre, well within 255.
+            assert_eq!(drawn(256, 0, 9, shape), (Ok(65_536), vec![9; 65_536]));
+        }
     }
-    for shape in [disc(256), ring(256)] {
-        assert_eq!(drawn(256, 0, 9, shape), (refused(10), vec![0; 65_536]));
+    let cases = [
+        (0, 0, 10),
+        (0, 1, 10),
+        (1024, 1, 33),
+        (1024, 0, 33),
+        (u16::MAX, u16::MAX, 33),
+    ];
+    for (radius, width, number) in cases {
+        for shape in of_either_size(radius, width) {
+            assert_eq!(drawn(256, 0, 9, shape), (refused(number), vec![0; 65_536]));
+        }
     }
+}
+
+/// Draws a disc so that the pixel at these distances from its centre is on a small page, in each of
+/// the eight octants, and hands back its coverage, which query and reference agree on.
+fn cover_in_octants(radius: u16, m: i16, n: i16) -> [u64; 8] {
+    let turns: [(bool, bool, bool); 8] =
+        std::array::from_fn(|turn| (turn & 1 > 0, turn & 2 > 0, turn & 4 > 0));
+    turns.map(|(exchange, left, up)| {
+        let (a, b) = if exchange { (n, m) } else { (m, n) };
+        let across = if left { -a - 1 } else { a };
+        let down = if up { -b - 1 } else { b };
+        let shape = disc(0, 0, radius);
+        let cover = query(&shape, across, down).expect("a lawful disc");
+        assert_eq!(library::coverage(&shape, across, down), Ok(cover));
+
+        let call = call_of(
+            4,
+            0,
+            named("codes"),
+            255,
+            disc(1 - across, 2 - down, radius),
+        );
+        let (after, _) = agreed(&call);
+        let alone = ShapeCall {
+            clip: Clip {
+                x0: 1,
+                y0: 2,
+                x1: 2,
+                y1: 3,
+            },
+            ..call
+        };
+        assert_eq!(agreed(&alone).1, Ok(u64::from(cover.n > 0)));
+        assert_eq!(after.page[2 * 4 + 1], blend(&named("codes"), 0, 255, cover));
+        cover.n
+    })
+}
+
+/// Next to its top a circle of radius 257 is below row line 257, and the height is on it.
+#[test]
+fn a_height_that_rounds_up_to_a_row_line() {
+    assert_eq!(height(257, 1), 256 * 257);
+    assert_eq!(cover_in_octants(257, 0, 256), [512; 8]);
+    assert_eq!(cover_in_octants(257, 1, 256), [510; 8]);
+}
+
+/// The circle passes row line 268: 273² − 52² = 268² + 1. The height is on that line.
+#[test]
+fn a_height_that_rounds_down_to_a_row_line() {
+    assert_eq!(height(273, 52), 256 * 268);
+    assert_eq!(cover_in_octants(273, 52, 268), [0; 8]);
+    assert!(cover_in_octants(273, 51, 268).iter().all(|&n| n > 0));
 }
 
 #[test]
@@ -430,15 +555,11 @@ fn coordinate_4095_is_drawn_and_4096_refused() {
             assert_eq!(drawn(2, 0, 255, shape), (refused(7), vec![0; 4]));
         }
     }
-    let disc = |x| {
-        Shape::Disc(Disc {
-            x,
-            y: 0,
-            radius: 255,
-        })
-    };
-    assert_eq!(drawn(2, 0, 255, disc(4095)), (Ok(0), vec![0; 4]));
-    assert_eq!(drawn(2, 0, 255, disc(4096)), (refused(7), vec![0; 4]));
+    for radius in [255, 1023] {
+        let disc = |x| disc(x, 0, radius);
+        assert_eq!(drawn(2, 0, 255, disc(4095)), (Ok(0), vec![0; 4]));
+        assert_eq!(drawn(2, 0, 255, disc(4096)), (refused(7), vec![0; 4]));
+    }
 }
 
 /// Half way between two neighbouring lights the higher code is written, from either side and
@@ -511,14 +632,9 @@ fn even_lights_are_as_good_as_codes() {
 /// A pixel that is covered whole has the level, whatever the lights.
 #[test]
 fn a_whole_cover_leaves_the_level() {
-    let disc = Shape::Disc(Disc {
-        x: 4,
-        y: 4,
-        radius: 20,
-    });
-    for name in FIT {
+    for (name, radius) in FIT.into_iter().flat_map(|name| [(name, 20), (name, 700)]) {
         for (background, level) in [(0, 255), (255, 0), (7, 8), (200, 199)] {
-            let mut call = call_of(8, background, named(name), level, disc);
+            let mut call = call_of(8, background, named(name), level, disc(4, 4, radius));
             assert_eq!(library::draw_shape(&mut call), Ok(64));
             assert_eq!(call.page, [level; 64], "{}", describe(&call));
         }

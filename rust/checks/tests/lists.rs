@@ -76,32 +76,39 @@ fn each_kind(version: u16) -> Vec<Record> {
             y1,
         })
     };
-    let (x, y, radius, width) = (4095, -4096, 255, 255);
     let clip = Clip {
         x0: 3,
         y0: 16,
         x1: 20,
         y1: 16,
     };
-    let ring = Ring {
-        x,
-        y,
-        radius,
-        width,
-    };
     let mut records = vec![
         Record::Setting(Setting::Clip(clip)),
         Record::Setting(Setting::Level(0)),
         Record::Shape(line(true)),
         Record::Shape(line(false)),
-        Record::Shape(Shape::Disc(Disc { x, y, radius })),
-        Record::Shape(Shape::Ring(ring)),
     ];
+    records.extend(circles(255, false));
     if version == 2 {
         records.push(Record::Setting(Setting::Player(7)));
+        records.extend(circles(1023, true));
     }
     records.push(Record::End);
     records
+}
+
+/// A disc, and a ring that covers as much.
+fn circles(radius: u16, big: bool) -> [Record; 2] {
+    let (x, y) = (4095, -4096);
+    let disc = Shape::Disc(Disc { x, y, radius, big });
+    let ring = Shape::Ring(Ring {
+        x,
+        y,
+        radius,
+        width: radius,
+        big,
+    });
+    [disc, ring].map(Record::Shape)
 }
 
 /// The bytes of a kind, of some numbers of two bytes, and of some of one byte.
@@ -114,11 +121,17 @@ fn bytes_of(kind: u8, words: &[i32], last: &[u8]) -> Vec<u8> {
 
 /// Whole records with one thing refused in each, and its number.
 fn refused_records(version: u16) -> Vec<(u64, Vec<u8>)> {
-    let mut records: Vec<(u64, Vec<u8>)> = (8..=255).map(|kind| (4, vec![kind])).collect();
+    let mut records: Vec<(u64, Vec<u8>)> = (10..=255).map(|kind| (4, vec![kind])).collect();
     let player = |player| bytes_of(7, &[], &[player]);
     match version {
-        1 => records.extend((0..=255).map(|next| (4, player(next)))),
-        _ => records.extend((8..=255).map(|next| (31, player(next)))),
+        1 => {
+            records.extend((0..=255).map(|next| (4, player(next))));
+            records.extend(big_records().into_iter().map(|(_, bytes)| (4, bytes)));
+        }
+        _ => {
+            records.extend((8..=255).map(|next| (31, player(next))));
+            records.extend(big_records());
+        }
     }
     for outside in [-32768, -4097, 4096, 32767] {
         for changed in 0..4 {
@@ -145,6 +158,28 @@ fn refused_records(version: u16) -> Vec<(u64, Vec<u8>)> {
     records
 }
 
+/// Records of kinds 8 and 9 with one thing refused in each in version 2, and its number.
+fn big_records() -> Vec<(u64, Vec<u8>)> {
+    let mut records = Vec::new();
+    for outside in [-32768, -4097, 4096, 32767] {
+        for centre in [[outside, 2], [1, outside]] {
+            records.push((7, bytes_of(8, &[&centre[..], &[0]].concat(), &[])));
+            records.push((7, bytes_of(9, &[&centre[..], &[1024, 0]].concat(), &[])));
+        }
+    }
+    records.push((10, bytes_of(8, &[0, 0, 0], &[])));
+    records.extend([0, 1].map(|width| (10, bytes_of(9, &[0, 0, 0, width], &[]))));
+    for radius in [1024, 1025, 32767, 32768, 65280, 65535] {
+        records.push((33, bytes_of(8, &[0, 0, radius], &[])));
+        let widths = [0, 1, radius, 65535];
+        records.extend(widths.map(|width| (33, bytes_of(9, &[0, 0, radius, width], &[]))));
+    }
+    for (radius, width) in [(1, 0), (1, 2), (300, 301), (1023, 0), (1023, 1024)] {
+        records.push((11, bytes_of(9, &[0, 0, radius, width], &[])));
+    }
+    records
+}
+
 /// A list of one record of each kind, and the place of each.
 fn list_of_each_kind(version: u16) -> (Vec<u8>, Vec<usize>) {
     let mut list = encode_header(&header(version));
@@ -163,7 +198,7 @@ fn stored_rows_agree() {
         let found = answer(&format!("reads {}", row.call));
         assert_eq!(found.trim(), row.answer, "{}", row.call);
     }
-    assert_eq!(rows.len(), 297);
+    assert_eq!(rows.len(), 382);
 }
 
 #[test]
@@ -258,6 +293,28 @@ fn a_player_is_a_record_of_version_2() {
         let list = [&encode_header(&header(2))[..], &[7, player, 0]].concat();
         assert_eq!(checked(&list, PAGE), Ok(header(2)));
         assert_eq!(read_length(&[7, player, 0], header(2).basis()), Ok(2));
+    }
+}
+
+/// A big disc or ring is unknown in version 1 whatever its bytes, also where they are missing.
+#[test]
+fn big_discs_and_rings_are_records_of_version_2() {
+    for kind in [8, 9] {
+        let length = if kind == 8 { 7 } else { 9 };
+        for (radius, number) in [
+            (0, Err(10)),
+            (1, Ok(length)),
+            (1023, Ok(length)),
+            (1024, Err(33)),
+        ] {
+            let words = [0, 0, radius, radius];
+            let record = bytes_of(kind, &words[..(length - 1) / 2], &[]);
+            for cut in 1..=length {
+                let found = |version| read_length(&record[..cut], header(version).basis());
+                assert_eq!(found(1), Err(4));
+                assert_eq!(found(2), if cut < length { Err(5) } else { number });
+            }
+        }
     }
 }
 
@@ -397,7 +454,7 @@ fn random_and_damaged_lists_agree() {
         };
         tally.meet(vec![class]);
     }
-    let numbers = [1, 2, 3, 4, 5, 6, 7, 8, 9, 10, 11, 21, 31, 32];
+    let numbers = [1, 2, 3, 4, 5, 6, 7, 8, 9, 10, 11, 21, 31, 32, 33];
     tally.require(numbers.map(|n| format!("refused {n}")).into(), LEAST);
     let accepted = VERSIONS.map(|version| format!("version {version} accepted"));
     tally.require(accepted.into(), LEAST);

@@ -4,14 +4,15 @@
 
 use checks::calls::answer;
 use checks::cases::{list_cases, rows};
-use checks::classes::{kind, Tally};
+use checks::classes::Tally;
 use checks::library;
 use checks::lights::{fit_lights, named, spoil_lights, FIT, UNFIT};
 use checks::listings::{damage, list};
 use checks::pictures::{listed, page_for, picture, picture_of, small_picture, Listed};
 use checks::random::Random;
+use reference::coverage::{chord_cover, height};
 use reference::exact::{bound, byte_after, exact_blend, touches_at, within, BigFraction, Touch};
-use reference::format::{encode_header, encode_record, Header, LONGEST_LIST};
+use reference::format::{encode_header, encode_record, kind_of, Header, LONGEST_LIST};
 use reference::lights::{codes, widest_gap};
 use reference::list::{check, draw_list, Drawn};
 use reference::natural::Natural;
@@ -72,7 +73,7 @@ fn classes(list: &[u8], before: &[u8], answer: &Answer) -> Vec<String> {
     };
     let accepted = check(list, before.len(), &codes()).expect("the list was drawn");
     let drawings = accepted.drawings.iter();
-    let mut classes: Vec<String> = drawings.map(|d| kind(&d.shape).to_string()).collect();
+    let mut classes: Vec<String> = drawings.map(|d| kind_class(&d.shape)).collect();
     let pixels = page_length(picture.width, picture.height);
     if before.len() > pixels {
         classes.push("surplus bytes".to_string());
@@ -90,6 +91,17 @@ fn classes(list: &[u8], before: &[u8], answer: &Answer) -> Vec<String> {
         classes.push("largest side".to_string());
     }
     classes
+}
+
+/// The kind of the shape's record.
+fn kind_class(shape: &Shape) -> String {
+    format!("kind {}", kind_of(&Record::Shape(*shape)))
+}
+
+/// Every kind that a shape can have.
+fn kinds() -> Vec<String> {
+    let kinds = [3, 4, 5, 6, 8, 9].map(|kind| format!("kind {kind}"));
+    kinds.into()
 }
 
 /// Who touches a pixel, and how many do.
@@ -111,7 +123,7 @@ fn stored_rows_agree() {
         let found = answer(&format!("lists {}", row.call));
         assert_eq!(found, row.answer, "{}", row.call);
     }
-    assert_eq!(rows.len(), 325);
+    assert_eq!(rows.len(), 423);
 }
 
 #[test]
@@ -138,7 +150,7 @@ fn random_lists_agree() {
         }
         tally.meet(classes);
     }
-    tally.require(texts(&["exact", "approximate", "disc", "ring"]), LEAST);
+    tally.require(kinds(), LEAST);
     let lights = FIT.into_iter().chain(["random"]);
     let lights = lights.map(|name| format!("touched in lights {name}"));
     tally.require(lights.collect(), LEAST);
@@ -187,10 +199,10 @@ fn damaged_lists_agree() {
     }
     let header_refusals = [5, 1, 2, 3, 21, 32].map(|n| format!("refused {n}"));
     tally.require(header_refusals.into(), LEAST);
-    let record_refusals = [4, 5, 6, 7, 8, 9, 10, 11, 31];
+    let record_refusals = [4, 5, 6, 7, 8, 9, 10, 11, 31, 33];
     let record_refusals = record_refusals.map(|n| format!("refused {n} further on"));
     tally.require(record_refusals.into(), LEAST);
-    tally.require(texts(&["exact", "approximate", "disc", "ring"]), LEAST);
+    tally.require(kinds(), LEAST);
 }
 
 /// The counts and the page of a list that is not refused.
@@ -302,6 +314,7 @@ fn a_player_is_in_force_until_the_next() {
         x: 1,
         y: 1,
         radius: 1,
+        big: true,
     }));
     let player = |player| Record::Setting(Setting::Player(player));
     let level = |level| Record::Setting(Setting::Level(level));
@@ -351,6 +364,64 @@ fn lists_about_the_greatest_length() {
         let level = answer.map(|_| page[0]).map_err(|refusal| refusal.number);
         assert_eq!(level, expected);
     }
+}
+
+/// The pixels that a disc about a corner of a page touches, where the page has a quarter of it.
+fn quarter_count(radius: u16) -> u64 {
+    let heights: Vec<i128> = (0..=i128::from(radius))
+        .map(|k| height(radius, k))
+        .collect();
+    let touches = |a: usize, b: usize| {
+        let (m, n) = (a.min(b), a.max(b));
+        chord_cover(heights[m], heights[m + 1], n as i128) > 0
+    };
+    let side = usize::from(radius);
+    let pixels = (0..side).flat_map(|a| (0..side).map(move |b| (a, b)));
+    pixels.filter(|&(a, b)| touches(a, b)).count() as u64
+}
+
+/// Big discs about a corner of the largest page fill a list, and player 5 touches more than 32 bits
+/// can count.
+#[test]
+fn counts_pass_32_bits() {
+    let header = Header {
+        version: 2,
+        width: 1024,
+        height: 1024,
+        background: 0,
+    };
+    let disc = |radius| {
+        encode_record(&Record::Shape(Shape::Disc(Disc {
+            x: 0,
+            y: 1024,
+            radius,
+            big: true,
+        })))
+    };
+    let radii = [1023, 1022, 1000, 977];
+    // 10 bytes of header, 2 of the player, 9,359 discs of 7, five levels of 2, and the end record.
+    let count = 9_359;
+    let mut list = encode_header(&header);
+    list.extend(encode_record(&Record::Setting(Setting::Player(5))));
+    list.extend(
+        radii
+            .iter()
+            .cycle()
+            .take(count)
+            .flat_map(|&radius| disc(radius)),
+    );
+    list.extend(encode_record(&Record::Setting(Setting::Level(9))).repeat(5));
+    list.push(0);
+    assert_eq!(list.len(), LONGEST_LIST);
+
+    let counts = radii.map(quarter_count);
+    let mut touched = [0; PLAYERS];
+    touched[5] = counts.iter().cycle().take(count).sum();
+    assert!(touched[5] > u64::from(u32::MAX));
+    let mut page = vec![7; page_length(1024, 1024)];
+    let drawn = library::draw_list(&list, &mut page, &codes());
+    assert_eq!(drawn.map(|drawn| drawn.touched), Ok(touched));
+    assert_eq!((page[0], page[1023 * 1024]), (0, 255));
 }
 
 /// So many tenths of a fraction.
@@ -520,7 +591,7 @@ fn unfit_lights_are_refused_before_the_records() {
             assert_eq!(drawn_in(&lights, &list, &page).0, refused(32));
             let no_end = &list[..list.len() - 1];
             assert_eq!(drawn_in(&lights, no_end, &page).0, refused(32));
-            let unknown = [&list[..10], &[9], &list[10..]].concat();
+            let unknown = [&list[..10], &[10], &list[10..]].concat();
             assert_eq!(drawn_in(&lights, &unknown, &page).0, refused(32));
             let pixels = page_length(header.width, header.height);
             assert_eq!(drawn_in(&lights, &list, &page[..pixels - 1]).0, refused(21));

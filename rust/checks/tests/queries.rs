@@ -2,7 +2,7 @@
 
 use checks::calls::answer;
 use checks::cases::rows;
-use checks::classes::{direction, directions, kind, signed_spans, Tally};
+use checks::classes::{bytes_class, direction, directions, kind, signed_spans, Tally};
 use checks::library;
 use checks::random::Random;
 use checks::strokes::shape_and_pixel;
@@ -18,14 +18,21 @@ type Answer = Result<Fraction, Refused>;
 
 /// Classes that a run must meet. Lines meet theirs once exact and once approximate.
 fn wanted() -> Vec<String> {
-    let mut wanted: Vec<String> = [7, 9, 10, 11].map(|n| format!("refused {n}")).into();
+    let mut wanted: Vec<String> = [7, 9, 10, 33, 11].map(|n| format!("refused {n}")).into();
     let refused = ["line end", "pixel", "centre", "pixel before equal ends"];
     wanted.extend(refused.map(|what| format!("refused 7: {what}")));
-    let values = ["0", "1", "2", "255", "256", "65535"];
+    let values = [0, 1, 2, 254, 255, 256, 257, 1022, 1023, 1024, 65535];
     wanted.extend(values.map(|value| format!("disc of radius {value}")));
     let widths = ["0", "1", "the radius", "one more than the radius"];
     wanted.extend(widths.map(|width| format!("ring of width {width}")));
-    wanted.extend(["disc", "ring"].map(|kind| format!("{kind} whole")));
+    for kind in ["disc", "ring"] {
+        wanted.push(format!("{kind} whole"));
+        wanted.extend([10, 33].map(|n| format!("{kind} refused {n}")));
+        for (radius, big) in [(255, false), (255, true), (1023, false), (1023, true)] {
+            wanted.push(format!("{kind} {}, in part", bytes_class(radius, big)));
+        }
+    }
+    wanted.extend([10, 33].map(|n| format!("refused {n} before 11")));
     for kind in ["exact", "approximate", "disc", "ring"] {
         wanted.extend(["uncovered", "covered", "at the last pixel"].map(|c| format!("{kind} {c}")));
     }
@@ -46,6 +53,8 @@ fn classes(shape: &Shape, x: i16, y: i16, answer: &Answer) -> Vec<String> {
             classes.push(if cover.n > 0 { "covered" } else { "uncovered" }.to_string());
             if cover.n == cover.d {
                 classes.push("whole".to_string());
+            } else if cover.n > 0 {
+                classes.extend(bytes_of(shape).map(|class| format!("{class}, in part")));
             }
             if [x, y].iter().any(|c| [-4096, 4095].contains(c)) && cover.n > 0 {
                 classes.push("at the last pixel".to_string());
@@ -69,7 +78,14 @@ fn refusal_classes(shape: &Shape, x: i16, y: i16, refusal: &Refused) -> Vec<Stri
         };
         classes.push(format!("refused 7: {what}"));
     } else {
-        classes.extend(circle_classes(shape).map(|class| format!("{} {class}", kind(shape))));
+        let kind = kind(shape);
+        classes.push(format!("{kind} refused {}", refusal.number));
+        classes.extend(circle_class(shape).map(|class| format!("{kind} {class}")));
+    }
+    if let Shape::Ring(ring) = shape {
+        if !(1..=ring.radius).contains(&ring.width) {
+            classes.push(format!("refused {} before 11", refusal.number));
+        }
     }
     classes
 }
@@ -77,11 +93,11 @@ fn refusal_classes(shape: &Shape, x: i16, y: i16, refusal: &Refused) -> Vec<Stri
 fn lawful_classes(shape: &Shape, x: i16, y: i16) -> Vec<String> {
     match shape {
         Shape::Line(line) => line_classes(line, x, y),
-        _ => circle_classes(shape).into_iter().collect(),
+        _ => circle_class(shape).into_iter().collect(),
     }
 }
 
-fn circle_classes(shape: &Shape) -> Option<String> {
+fn circle_class(shape: &Shape) -> Option<String> {
     match shape {
         Shape::Line(_) => None,
         Shape::Disc(disc) => Some(format!("of radius {}", disc.radius)),
@@ -90,6 +106,14 @@ fn circle_classes(shape: &Shape) -> Option<String> {
             Some("of width one more than the radius".to_string())
         }
         Shape::Ring(ring) => Some(format!("of width {}", ring.width)),
+    }
+}
+
+fn bytes_of(shape: &Shape) -> Option<String> {
+    match shape {
+        Shape::Line(_) => None,
+        Shape::Disc(disc) => Some(bytes_class(disc.radius, disc.big)),
+        Shape::Ring(ring) => Some(bytes_class(ring.radius, ring.big)),
     }
 }
 
@@ -140,5 +164,5 @@ fn stored_rows_agree() {
         let found = answer(&format!("queries {}", row.call));
         assert_eq!(found, row.answer, "{}", row.call);
     }
-    assert_eq!(rows.len(), 376);
+    assert_eq!(rows.len(), 458);
 }

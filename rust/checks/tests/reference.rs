@@ -35,7 +35,7 @@ fn every_row_of_every_table() {
             count += 1;
         }
     }
-    assert_eq!(count, 376 + 134 + 392 + 274 + 297 + 325);
+    assert_eq!(count, 458 + 178 + 539 + 351 + 382 + 423);
 }
 
 #[test]
@@ -44,7 +44,7 @@ fn every_printed_list() {
     for case in &cases {
         assert_eq!(print::print(&case.list), case.output, "{}", case.name);
     }
-    assert_eq!(cases.len(), 54);
+    assert_eq!(cases.len(), 63);
 }
 
 /// Each byte is the fold over its touches, and its light lies within the bound of the exact blend.
@@ -78,5 +78,5 @@ fn accepted_lists_keep_the_bound() {
             accepted_lists += 1;
         }
     }
-    assert_eq!(accepted_lists, 34);
+    assert_eq!(accepted_lists, 39);
 }

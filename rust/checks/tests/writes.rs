@@ -10,10 +10,10 @@ use checks::notation::Writable;
 use checks::random::Random;
 use checks::reference_writer::write;
 use checks::rows::Writing;
-use reference::format::{Header, HEADER_LENGTH, LONGEST_LIST};
+use reference::format::{encode_header, kind_of, Header, HEADER_LENGTH, LONGEST_LIST};
 use reference::lights::codes;
 use reference::list::check;
-use reference::shape::{Basis, Clip, Record, Setting};
+use reference::shape::{Basis, Clip, Disc, Record, Ring, Setting, Shape};
 
 const WRITES: u32 = 200_000;
 const LISTS: u32 = 4_000;
@@ -67,17 +67,43 @@ fn written(writing: &mut Writing, what: &Writable) -> Result<(), u64> {
 
 fn class(what: &Writable, outcome: Result<(), u64>) -> String {
     let what = match what {
-        Writable::Header(_) => "header",
-        Writable::Record(Record::End) => "end",
-        Writable::Record(Record::Setting(Setting::Clip(_))) => "clip",
-        Writable::Record(Record::Setting(Setting::Level(_))) => "level",
-        Writable::Record(Record::Setting(Setting::Player(_))) => "player",
-        Writable::Record(Record::Shape(_)) => "shape",
+        Writable::Header(_) => "header".to_string(),
+        Writable::Record(record) => format!("kind {}", kind_of(record)),
     };
     match outcome {
         Ok(()) => format!("{what} written"),
         Err(number) => format!("{what} refused {number}"),
     }
+}
+
+/// Classes that a run of random writes must meet.
+fn wanted() -> Vec<String> {
+    let mut wanted = Vec::new();
+    let mut want = |what: &str, numbers: &[u64]| {
+        wanted.push(format!("{what} written"));
+        let numbers = [&[2, 3, 22], numbers].concat();
+        wanted.extend(
+            numbers
+                .iter()
+                .map(|number| format!("{what} refused {number}")),
+        );
+    };
+    want("header", &[]);
+    for (kind, numbers) in [
+        (0, &[][..]),
+        (1, &[8]),
+        (2, &[]),
+        (3, &[7, 9]),
+        (4, &[7, 9]),
+        (5, &[7, 10, 33]),
+        (6, &[7, 10, 33, 11]),
+        (7, &[4, 31]),
+        (8, &[4, 7, 10, 33]),
+        (9, &[4, 7, 10, 33, 11]),
+    ] {
+        want(&format!("kind {kind}"), numbers);
+    }
+    wanted
 }
 
 #[test]
@@ -87,7 +113,7 @@ fn stored_rows_agree() {
         let found = answer(&format!("writes {}", row.call));
         assert_eq!(found.trim(), row.answer, "{}", row.call);
     }
-    assert_eq!(rows.len(), 274);
+    assert_eq!(rows.len(), 351);
 }
 
 #[test]
@@ -108,14 +134,7 @@ fn random_writes_agree() {
         }
         tally.meet(vec![class(&what, outcome)]);
     }
-    for what in ["header", "end", "clip", "level", "player", "shape"] {
-        let outcomes = ["written", "refused 2", "refused 3", "refused 22"];
-        tally.require(outcomes.map(|o| format!("{what} {o}")).into(), LEAST);
-    }
-    let refusals = [7, 9, 10, 11].map(|number| format!("shape refused {number}"));
-    tally.require(refusals.into(), LEAST);
-    let refusals = ["clip refused 8", "player refused 4", "player refused 31"];
-    tally.require(refusals.map(String::from).into(), LEAST);
+    tally.require(wanted(), LEAST);
 }
 
 /// A writer past the header of a list of twenty bytes.
@@ -147,6 +166,105 @@ fn refusals_of_a_player_come_in_their_order() {
         state.place = place;
         let what = Writable::Record(Record::Setting(Setting::Player(player)));
         assert_eq!(written(&mut state, &what), outcome);
+    }
+}
+
+fn disc(x: i16, radius: u16, big: bool) -> Record {
+    let y = -2;
+    Record::Shape(Shape::Disc(Disc { x, y, radius, big }))
+}
+
+fn ring(x: i16, radius: u16, width: u16, big: bool) -> Record {
+    Record::Shape(Shape::Ring(Ring {
+        x,
+        y: -2,
+        radius,
+        width,
+        big,
+    }))
+}
+
+/// Takes the faults away one by one: 2, 3, 4, 7, 10, 33, 11, 22.
+#[test]
+fn refusals_of_a_big_ring_come_in_their_order() {
+    let no_room = LONGEST_LIST;
+    for (version, width, record, place, outcome) in [
+        (3, 0, ring(4096, 0, 0, true), no_room, Err(2)),
+        (1, 0, ring(4096, 0, 0, true), no_room, Err(3)),
+        (1, 20, ring(4096, 0, 0, true), no_room, Err(4)),
+        (2, 20, ring(4096, 0, 0, true), no_room, Err(7)),
+        (2, 20, ring(4095, 0, 0, true), no_room, Err(10)),
+        (2, 20, ring(4095, 1024, 0, true), no_room, Err(33)),
+        (2, 20, ring(4095, 1023, 0, true), no_room, Err(11)),
+        (2, 20, ring(4095, 1023, 1023, true), no_room, Err(22)),
+        (2, 20, ring(4095, 1023, 1023, true), HEADER_LENGTH, Ok(())),
+    ] {
+        let mut state = past_the_header(version, width);
+        state.place = place;
+        assert_eq!(written(&mut state, &Writable::Record(record)), outcome);
+    }
+}
+
+/// A radius that one byte does not hold is refused under kinds 5 and 6 by 33, after 10 and before 11
+/// and 22.
+#[test]
+fn a_radius_of_one_byte_is_at_most_255() {
+    for (version, place) in [(1, HEADER_LENGTH), (2, HEADER_LENGTH), (2, LONGEST_LIST)] {
+        let outcome = |record| {
+            let mut state = past_the_header(version, 20);
+            state.place = place;
+            written(&mut state, &Writable::Record(record))
+        };
+        for radius in [256, 257, 300, 1023, 1024, u16::MAX] {
+            assert_eq!(outcome(disc(4096, radius, false)), Err(7));
+            assert_eq!(outcome(disc(9, radius, false)), Err(33));
+            for width in [0, 1, radius, u16::MAX] {
+                assert_eq!(outcome(ring(9, radius, width, false)), Err(33));
+            }
+        }
+        assert_eq!(outcome(disc(9, 0, false)), Err(10));
+        assert_eq!(outcome(ring(9, 0, 256, false)), Err(10));
+        assert_eq!(outcome(ring(9, 255, 256, false)), Err(11));
+        let room = if place == HEADER_LENGTH {
+            Ok(())
+        } else {
+            Err(22)
+        };
+        assert_eq!(outcome(disc(9, 255, false)), room);
+        assert_eq!(outcome(ring(9, 255, 255, false)), room);
+    }
+}
+
+/// A disc and a ring of each radius, each as the kind that it was read as.
+#[test]
+fn each_kind_of_circle_comes_back_as_its_own_bytes() {
+    let header = Header {
+        version: 2,
+        width: 20,
+        height: 16,
+        background: 9,
+    };
+    for radius in 1..=1023_u16 {
+        let [low, high] = radius.to_le_bytes();
+        let mut records = vec![
+            (8, disc(7, radius, true), vec![low, high]),
+            (9, ring(7, radius, radius, true), vec![low, high, low, high]),
+        ];
+        if high == 0 {
+            records.push((5, disc(7, radius, false), vec![low]));
+            records.push((6, ring(7, radius, radius, false), vec![low, low]));
+        }
+        let mut list = encode_header(&header);
+        for (kind, record, measures) in records {
+            let bytes = [&[kind, 7, 0, 254, 255], &measures[..]].concat();
+            let (read, rest) = library::read_record(&bytes, header.basis());
+            assert_eq!((read, rest), (Ok(record), &[][..]));
+            list.extend(bytes);
+        }
+        list.push(0);
+        let checked = library::check_list(&list, LARGEST_PAGE, &codes());
+        assert_eq!(checked, Ok(header));
+        assert_eq!(written_again(&list, header), list);
     }
 }
 
@@ -217,13 +335,20 @@ fn accepted_lists_written_again_are_their_own_bytes() {
     let mut tally = Tally::default();
     for _ in 0..LISTS {
         let list = list(&mut random);
-        if let Ok(header) = library::check_list(&list, LARGEST_PAGE, &codes()) {
-            assert_eq!(written_again(&list, header), list);
-            tally.meet(vec![format!("version {}", header.version)]);
+        let header = library::check_list(&list, LARGEST_PAGE, &codes());
+        if let Ok(accepted) = check(&list, LARGEST_PAGE, &codes()) {
+            assert_eq!(header, Ok(accepted.header));
+            assert_eq!(written_again(&list, accepted.header), list);
+            tally.meet(vec![format!("version {}", accepted.header.version)]);
+            let shapes = accepted.drawings.iter().map(|drawing| drawing.shape);
+            let kinds = shapes.map(|shape| kind_of(&Record::Shape(shape)));
+            tally.meet(kinds.map(|kind| format!("kind {kind}")).collect());
         }
     }
     let versions = ["version 1", "version 2"].map(String::from);
     tally.require(versions.into(), LEAST);
+    let kinds = [3, 4, 5, 6, 8, 9].map(|kind| format!("kind {kind}"));
+    tally.require(kinds.into(), LEAST);
 }
 
 /// A header and records until one does not fit, then an end record if there is room for it.

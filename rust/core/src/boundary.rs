@@ -41,13 +41,20 @@ impl From<Shape> for GivenShape {
                 x1,
                 y1,
             }) => (if exact { 3 } else { 4 }, [x0, y0, x1, y1].map(i32::from)),
-            Shape::Disc(Disc { x, y, radius }) => (5, [x.into(), y.into(), radius.into(), 0]),
+            Shape::Disc(Disc { x, y, radius, big }) => (
+                if big { 8 } else { 5 },
+                [x.into(), y.into(), radius.into(), 0],
+            ),
             Shape::Ring(Ring {
                 x,
                 y,
                 radius,
                 width,
-            }) => (6, [x.into(), y.into(), radius.into(), width.into()]),
+                big,
+            }) => (
+                if big { 9 } else { 6 },
+                [x.into(), y.into(), radius.into(), width.into()],
+            ),
         };
         GivenShape {
             kind,

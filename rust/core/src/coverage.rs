@@ -16,14 +16,16 @@ pub struct Fraction {
 /// # Errors
 ///
 /// The first that applies of [`Refusal::Coordinate`], [`Refusal::EqualEnds`],
-/// [`Refusal::Radius`] and [`Refusal::RingWidth`].
+/// [`Refusal::Radius`], [`Refusal::RadiusTooLarge`] and [`Refusal::RingWidth`].
 ///
 /// ```
 /// use greystroke::{coverage, Disc, Fraction, Refusal, Shape};
 ///
-/// let disc = |radius| Shape::Disc(Disc { x: 0, y: 0, radius });
+/// let disc = |radius| Shape::Disc(Disc { x: 0, y: 0, radius, big: false });
 /// assert_eq!(coverage(disc(2), 0, 1), Ok(Fraction { n: 443, d: 512 }));
-/// assert_eq!(coverage(disc(256), 0, 1), Err(Refusal::Radius));
+/// assert_eq!(coverage(disc(1023), 0, 1022), Ok(Fraction { n: 512, d: 512 }));
+/// assert_eq!(coverage(disc(0), 0, 1), Err(Refusal::Radius));
+/// assert_eq!(coverage(disc(1024), 0, 1), Err(Refusal::RadiusTooLarge));
 /// ```
 pub fn coverage(shape: Shape, x: i16, y: i16) -> Result<Fraction, Refusal> {
     // SAFETY: plain numbers by value to a function without precondition.

@@ -10,7 +10,7 @@ use std::error::Error;
 use std::fmt::{self, Debug, Display, Formatter};
 
 /// The version to write: it has every kind of record. Lists of version 1, which have no
-/// [`Setting::Player`], are read and written too.
+/// [`Setting::Player`] and no big disc or ring, are read and written too.
 pub const LATEST_VERSION: u16 = 2;
 
 /// What records are read and written against: the version of their list, and the size of its page.
@@ -77,11 +77,12 @@ impl Error for ListRefusal {}
 ///
 /// The first that applies of [`Refusal::WrongVersion`], [`Refusal::PageSize`],
 /// [`Refusal::CutShort`] where there is no byte, [`Refusal::UnknownKind`], [`Refusal::CutShort`],
-/// and then what the record itself earns of [`Refusal::Coordinate`] to [`Refusal::RingWidth`] and
-/// [`Refusal::Player`].
+/// and then what the record itself earns of [`Refusal::Coordinate`], [`Refusal::Clip`],
+/// [`Refusal::EqualEnds`], [`Refusal::Radius`], [`Refusal::RadiusTooLarge`], [`Refusal::RingWidth`]
+/// and [`Refusal::Player`].
 ///
 /// ```
-/// use greystroke::{read_record, Basis, Record, Refusal, Setting, Size};
+/// use greystroke::{read_record, Basis, Disc, Record, Refusal, Setting, Shape, Size};
 ///
 /// let size = Size { width: 4, height: 3 };
 /// let basis = Basis { version: 2, size };
@@ -89,6 +90,12 @@ impl Error for ListRefusal {}
 /// assert_eq!(read_record(&[7, 5, 0], basis), Ok((player, &[0][..])));
 /// assert_eq!(read_record(&[7], basis), Err(Refusal::CutShort));
 /// assert_eq!(read_record(&[7, 8], basis), Err(Refusal::Player));
+///
+/// // Of two records with the same disc, each is told by `big` from the other.
+/// let disc = |big| Record::Shape(Shape::Disc(Disc { x: 1, y: 2, radius: 3, big }));
+/// assert_eq!(read_record(&[5, 1, 0, 2, 0, 3], basis), Ok((disc(false), &[][..])));
+/// assert_eq!(read_record(&[8, 1, 0, 2, 0, 3, 0], basis), Ok((disc(true), &[][..])));
+/// assert_eq!(read_record(&[8, 1, 0, 2, 0, 0, 4], basis), Err(Refusal::RadiusTooLarge));
 ///
 /// let older = Basis { version: 1, size };
 /// assert_eq!(read_record(&[7, 5, 0], older), Err(Refusal::UnknownKind));
@@ -183,9 +190,10 @@ impl<'a> Writer<'a> {
     /// # Errors
     ///
     /// The first that applies of [`Refusal::WrongVersion`] and [`Refusal::PageSize`] of the basis
-    /// held, [`Refusal::UnknownKind`], what the record itself earns of [`Refusal::Coordinate`] to
-    /// [`Refusal::RingWidth`] and [`Refusal::Player`], and [`Refusal::NoRoom`]. Nothing is changed
-    /// then.
+    /// held, [`Refusal::UnknownKind`], what the record itself earns of [`Refusal::Coordinate`],
+    /// [`Refusal::Clip`], [`Refusal::EqualEnds`], [`Refusal::Radius`], [`Refusal::RadiusTooLarge`]
+    /// (also of a radius above 255 that is not `big`), [`Refusal::RingWidth`] and
+    /// [`Refusal::Player`], and [`Refusal::NoRoom`]. Nothing is changed then.
     pub fn write_record(&mut self, record: Record) -> Result<(), Refusal> {
         let (list, length) = (self.list.as_mut_ptr(), self.list.len());
         let (place, basis) = (self.place, self.basis.into());
@@ -284,16 +292,18 @@ fn shape_of(answer: &ReadAnswer) -> Shape {
             x1: narrow(c),
             y1: narrow(d),
         }),
-        5 => Shape::Disc(Disc {
+        kind @ (5 | 8) => Shape::Disc(Disc {
             x: narrow(a),
             y: narrow(b),
             radius: narrow(c),
+            big: kind == 8,
         }),
-        6 => Shape::Ring(Ring {
+        kind @ (6 | 9) => Shape::Ring(Ring {
             x: narrow(a),
             y: narrow(b),
             radius: narrow(c),
             width: narrow(d),
+            big: kind == 9,
         }),
         kind => panic!("the library read a record of kind {kind}"),
     }

@@ -24,7 +24,7 @@ pub enum Refusal {
     Clip = 8,
     /// The two ends of a line are the same corner.
     EqualEnds = 9,
-    /// A radius is 0 or above 255.
+    /// A radius is 0.
     Radius = 10,
     /// A ring's width is 0 or above its radius.
     RingWidth = 11,
@@ -39,10 +39,12 @@ pub enum Refusal {
     Player = 31,
     /// Lights are not 256 in number, or not strictly rising.
     Lights = 32,
+    /// A radius is above 1023, or above 255 in a record that has one byte for it.
+    RadiusTooLarge = 33,
 }
 
 impl Refusal {
-    const ALL: [Refusal; 16] = [
+    const ALL: [Refusal; 17] = [
         Refusal::WrongMark,
         Refusal::WrongVersion,
         Refusal::PageSize,
@@ -59,6 +61,7 @@ impl Refusal {
         Refusal::NoRoom,
         Refusal::Player,
         Refusal::Lights,
+        Refusal::RadiusTooLarge,
     ];
 
     pub fn number(self) -> u64 {
@@ -77,13 +80,16 @@ impl Refusal {
             Refusal::Coordinate => "a coordinate is outside -4,096 to 4,095",
             Refusal::Clip => "the clip is out of order or off the page",
             Refusal::EqualEnds => "the ends of the line coincide",
-            Refusal::Radius => "the radius is 0 or above 255",
+            Refusal::Radius => "the radius is 0",
             Refusal::RingWidth => "the width of the ring is 0 or above its radius",
             Refusal::ListTooLong => "the list has more than 65,536 bytes",
             Refusal::PageTooShort => "the page has fewer bytes than pixels",
             Refusal::NoRoom => "too few bytes are left in the list, which has at most 65,536",
             Refusal::Player => "the player is above 7",
             Refusal::Lights => "the lights are not 256 in number, or not strictly rising",
+            Refusal::RadiusTooLarge => {
+                "the radius is above 1,023, or above 255 in a record with one byte for it"
+            }
         }
     }
 

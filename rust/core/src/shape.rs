@@ -11,12 +11,15 @@ pub struct Line {
     pub y1: i16,
 }
 
-/// A filled circle, radius 1 to 255.
+/// A filled circle, radius 1 to 1023.
 #[derive(Clone, Copy, Debug, PartialEq, Eq)]
 pub struct Disc {
     pub x: i16,
     pub y: i16,
     pub radius: u16,
+    /// Written as kind 8, whose radius has two bytes; kind 5 has one byte, for a radius up to 255.
+    /// Calls that draw or ask about the disc ignore it.
+    pub big: bool,
 }
 
 /// A disc less the disc whose radius is smaller by the width; width 1 to the radius.
@@ -26,6 +29,9 @@ pub struct Ring {
     pub y: i16,
     pub radius: u16,
     pub width: u16,
+    /// Written as kind 9, whose radius and width have two bytes each; kind 6 has one byte each, for a
+    /// radius up to 255. Calls that draw or ask about the ring ignore it.
+    pub big: bool,
 }
 
 /// Any of the three.

@@ -8,6 +8,7 @@ const DISC: Disc = Disc {
     x: 0,
     y: 0,
     radius: 5,
+    big: false,
 };
 /// Up to here a height is at least as far from the centre as its lattice line is. The next height
 /// is the corner that the exchange of x and y gives.

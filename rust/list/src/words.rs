@@ -6,7 +6,8 @@ use std::str::FromStr;
 // Words in capitals stand for numbers; the others stand as they are.
 pub const PAGE: &str = "page W H BACKGROUND";
 const PAGE_OF_VERSION: &str = "page W H BACKGROUND version VERSION";
-pub const RECORD: &str = "a record (clip, level, player, exact, approximate, disc, ring or end)";
+pub const RECORD: &str =
+    "a record (clip, level, player, exact, approximate, disc, ring, bigdisc, bigring or end)";
 const CLIP: &str = "clip X Y X Y";
 const LEVEL: &str = "level LEVEL";
 const PLAYER: &str = "player PLAYER";
@@ -14,6 +15,8 @@ const EXACT: &str = "exact X Y X Y";
 const APPROXIMATE: &str = "approximate X Y X Y";
 const DISC: &str = "disc X Y RADIUS";
 const RING: &str = "ring X Y RADIUS WIDTH";
+const BIG_DISC: &str = "bigdisc X Y RADIUS";
+const BIG_RING: &str = "bigring X Y RADIUS WIDTH";
 const END: &str = "end";
 
 /// What a line should have been, where it is something else.
@@ -53,8 +56,10 @@ pub fn record_of(words: &[&str]) -> Result<Record, Unexpected> {
         }
         Some("exact") => line_of(words, EXACT, true),
         Some("approximate") => line_of(words, APPROXIMATE, false),
-        Some("disc") => disc_of(words),
-        Some("ring") => ring_of(words),
+        Some("disc") => disc_of(words, DISC, false),
+        Some("ring") => ring_of(words, RING, false),
+        Some("bigdisc") => disc_of(words, BIG_DISC, true),
+        Some("bigring") => ring_of(words, BIG_RING, true),
         _ => Err(unexpected(RECORD)),
     }
 }
@@ -80,22 +85,24 @@ fn line_of(words: &[&str], form: &'static str, exact: bool) -> Result<Record, Un
     })))
 }
 
-fn disc_of(words: &[&str]) -> Result<Record, Unexpected> {
-    let mut fields = Fields::of(words, DISC)?;
+fn disc_of(words: &[&str], form: &'static str, big: bool) -> Result<Record, Unexpected> {
+    let mut fields = Fields::of(words, form)?;
     Ok(Record::Shape(Shape::Disc(Disc {
         x: fields.next()?,
         y: fields.next()?,
         radius: fields.next()?,
+        big,
     })))
 }
 
-fn ring_of(words: &[&str]) -> Result<Record, Unexpected> {
-    let mut fields = Fields::of(words, RING)?;
+fn ring_of(words: &[&str], form: &'static str, big: bool) -> Result<Record, Unexpected> {
+    let mut fields = Fields::of(words, form)?;
     Ok(Record::Shape(Shape::Ring(Ring {
         x: fields.next()?,
         y: fields.next()?,
         radius: fields.next()?,
         width: fields.next()?,
+        big,
     })))
 }
 
@@ -167,14 +174,25 @@ pub fn record_words(record: Record) -> String {
         Record::Setting(Setting::Level(level)) => format!("level {level}"),
         Record::Setting(Setting::Player(player)) => format!("player {player}"),
         Record::Shape(Shape::Line(line)) => line_words(line),
-        Record::Shape(Shape::Disc(Disc { x, y, radius })) => format!("disc {x} {y} {radius}"),
-        Record::Shape(Shape::Ring(ring)) => {
-            format!("ring {} {} {} {}", ring.x, ring.y, ring.radius, ring.width)
-        }
+        Record::Shape(Shape::Disc(disc)) => disc_words(disc),
+        Record::Shape(Shape::Ring(ring)) => ring_words(ring),
     }
 }
 
 fn line_words(line: Line) -> String {
     let rule = if line.exact { "exact" } else { "approximate" };
     format!("{rule} {} {} {} {}", line.x0, line.y0, line.x1, line.y1)
+}
+
+fn disc_words(disc: Disc) -> String {
+    let kind = if disc.big { "bigdisc" } else { "disc" };
+    format!("{kind} {} {} {}", disc.x, disc.y, disc.radius)
+}
+
+fn ring_words(ring: Ring) -> String {
+    let kind = if ring.big { "bigring" } else { "ring" };
+    format!(
+        "{kind} {} {} {} {}",
+        ring.x, ring.y, ring.radius, ring.width
+    )
 }

@@ -21,10 +21,12 @@ approximate 7 -2 -4096 4095  # at 30
 disc 4095 -4096 255          # at 39
 ring -1 0 255 255            # at 45
 player 7                     # at 52
-end                          # at 54
+bigdisc 4095 -4096 1023      # at 54
+bigring -1 0 255 255         # at 61
+end                          # at 70
 ";
 
-/// The same in version 1, which has no player.
+/// The same in version 1, which has no player and no big disc or ring.
 const EACH_KIND_OF_VERSION_1: &str = "\
 page 20 16 9 version 1       # at 0
 clip 3 16 20 16              # at 10
@@ -111,21 +113,24 @@ fn wrong(text: &str) -> String {
 #[test]
 fn each_kind_of_record_has_its_words() {
     let list = make(EACH_KIND.as_bytes()).unwrap();
-    assert_eq!(list.len(), 55);
+    assert_eq!(list.len(), 71);
     assert_eq!(list[10..19], [1, 3, 0, 16, 0, 20, 0, 16, 0]);
     assert_eq!(list[30..39], [4, 7, 0, 0xFE, 0xFF, 0, 0xF0, 0xFF, 0x0F]);
+    assert_eq!(list[45..52], [6, 0xFF, 0xFF, 0, 0, 255, 255]);
     assert_eq!(list[52..54], [7, 7]);
+    assert_eq!(list[54..61], [8, 0xFF, 0x0F, 0, 0xF0, 0xFF, 3]);
+    assert_eq!(list[61..70], [9, 0xFF, 0xFF, 0, 0, 255, 0, 255, 0]);
     assert_eq!(dump(&list).text, EACH_KIND);
 }
 
-/// The same bytes but for those of the version and of the player, which version 1 lacks.
+/// The same bytes but for those of the version and of the records that version 1 lacks.
 #[test]
 fn version_1_is_told_and_version_2_is_not() {
     let newer = make(EACH_KIND.as_bytes()).unwrap();
     let older = make(EACH_KIND_OF_VERSION_1.as_bytes()).unwrap();
     assert_eq!((&newer[3..5], &older[3..5]), (&[2, 0][..], &[1, 0][..]));
     assert_eq!(newer[5..52], older[5..52]);
-    assert_eq!((&newer[52..], &older[52..]), (&[7, 7, 0][..], &[0][..]));
+    assert_eq!((&newer[52..55], &older[52..]), (&[7, 7, 8][..], &[0][..]));
     assert_eq!(dump(&older).text, EACH_KIND_OF_VERSION_1);
     let told = make(b"page 4 3 0 version 2\nend\n");
     assert_eq!(told, make(b"page 4 3 0\nend\n"));
@@ -180,7 +185,7 @@ fn a_wrong_kind_ends_the_dump_at_any_record() {
     let starts = places(EACH_KIND);
     for (before, &place) in starts.iter().enumerate().skip(1) {
         let mut damaged = list.clone();
-        damaged[place] = 8;
+        damaged[place] = 10;
         assert_eq!(assert_told(&damaged), Some(Refusal::UnknownKind));
         let dumped = dump(&damaged);
         assert_eq!(places(&dumped.text), starts[..before]);
@@ -190,21 +195,27 @@ fn a_wrong_kind_ends_the_dump_at_any_record() {
     }
 }
 
-/// Turned into a list of version 1, a list with a player is dumped up to it.
+/// Turned into a list of version 1, a list is dumped up to its first record of version 2.
 #[test]
-fn a_player_ends_the_dump_of_version_1() {
-    let mut list = make(EACH_KIND.as_bytes()).unwrap();
-    list[3] = 1;
-    assert_eq!(assert_told(&list), Some(Refusal::UnknownKind));
-    let text = dump(&list).text;
-    assert!(text.starts_with("page 20 16 9 version 1 "), "{text}");
-    assert_eq!(places(&text), [0, 10, 19, 21, 30, 39, 45]);
+fn a_record_of_version_2_ends_the_dump_of_version_1() {
+    let whole = make(EACH_KIND.as_bytes()).unwrap();
+    let (older, newer) = (&whole[..52], [52..54, 54..61, 61..70]);
+    for records in [[0, 1, 2], [1, 2, 0], [2, 1, 0]] {
+        let newer = records.map(|record: usize| &whole[newer[record].clone()]);
+        let mut list = [older, &newer.concat(), &[0]].concat();
+        assert_eq!(assert_told(&list), None);
+        list[3] = 1;
+        assert_eq!(assert_told(&list), Some(Refusal::UnknownKind));
+        let text = dump(&list).text;
+        assert!(text.starts_with("page 20 16 9 version 1 "), "{text}");
+        assert_eq!(places(&text), [0, 10, 19, 21, 30, 39, 45]);
+    }
 }
 
 #[test]
 fn damaged_lists_tell_the_refusal_of_their_check() {
     let mut random = Random::new(2);
-    let mut seen = [0_u32; 32];
+    let mut seen = [0_u32; 34];
     for _ in 0..10 * ROUNDS {
         let mut list = any_list(&mut random);
         damage(&mut random, &mut list);
@@ -213,7 +224,7 @@ fn damaged_lists_tell_the_refusal_of_their_check() {
     }
     // Every refusal of a list but that of its length, and lists that took no harm.
     assert!(seen[..12].iter().all(|&count| count > 10), "{seen:?}");
-    assert!(seen[31] > 10, "{seen:?}");
+    assert!(seen[31] > 10 && seen[33] > 10, "{seen:?}");
 }
 
 #[test]
@@ -253,9 +264,65 @@ fn blanks_comments_and_carriage_returns_are_passed_over() {
     assert!(plain.is_ok());
 }
 
+/// Each record is refused, or expected to be another, in the third line of a text.
+fn assert_wrong_records(rows: &[(&str, &str)]) {
+    for (line, told) in rows {
+        let text = format!("page 4 3 0  # a page\n\n{line}  # wrong\nend\n");
+        assert_eq!(wrong(&text), format!("line 3: {told}"));
+    }
+}
+
+#[test]
+fn wrong_discs_and_rings_are_told() {
+    let too_large =
+        "refused 33: the radius is above 1,023, or above 255 in a record with one byte for it";
+    assert_wrong_records(&[
+        ("disc 1 1", "expected disc X Y RADIUS, found disc 1 1"),
+        ("disc 1 1 0", "refused 10: the radius is 0"),
+        ("disc 1 1 256", too_large),
+        (
+            "disc 1 1 65536",
+            "expected disc X Y RADIUS, found disc 1 1 65536: 65536 does not fit RADIUS",
+        ),
+        (
+            "bigdisc 1 1",
+            "expected bigdisc X Y RADIUS, found bigdisc 1 1",
+        ),
+        ("bigdisc 1 1 0", "refused 10: the radius is 0"),
+        ("bigdisc 1 1 1024", too_large),
+        (
+            "bigdisc 1 1 65536",
+            "expected bigdisc X Y RADIUS, found bigdisc 1 1 65536: 65536 does not fit RADIUS",
+        ),
+        (
+            "ring 1 1 5",
+            "expected ring X Y RADIUS WIDTH, found ring 1 1 5",
+        ),
+        (
+            "ring 1 1 5 6",
+            "refused 11: the width of the ring is 0 or above its radius",
+        ),
+        ("ring 1 1 256 256", too_large),
+        (
+            "bigring 1 1 5",
+            "expected bigring X Y RADIUS WIDTH, found bigring 1 1 5",
+        ),
+        (
+            "bigring 1 1 300 301",
+            "refused 11: the width of the ring is 0 or above its radius",
+        ),
+        (
+            "bigring 1 1 300 65536",
+            "expected bigring X Y RADIUS WIDTH, \
+             found bigring 1 1 300 65536: 65536 does not fit WIDTH",
+        ),
+    ]);
+}
+
 #[test]
 fn wrong_lines_are_told_by_their_number() {
-    let record = "a record (clip, level, player, exact, approximate, disc, ring or end)";
+    let record =
+        "a record (clip, level, player, exact, approximate, disc, ring, bigdisc, bigring or end)";
     let rows = [
         (
             "",
@@ -354,32 +421,24 @@ fn wrong_lines_are_told_by_their_number() {
             "expected player PLAYER, found player 256: 256 does not fit PLAYER",
         ),
         ("player 8", "refused 31: the player is above 7"),
-        ("disc 1 1", "expected disc X Y RADIUS, found disc 1 1"),
-        ("disc 1 1 256", "refused 10: the radius is 0 or above 255"),
-        (
-            "disc 1 1 65536",
-            "expected disc X Y RADIUS, found disc 1 1 65536: 65536 does not fit RADIUS",
-        ),
-        (
-            "ring 1 1 5",
-            "expected ring X Y RADIUS WIDTH, found ring 1 1 5",
-        ),
-        (
-            "ring 1 1 5 6",
-            "refused 11: the width of the ring is 0 or above its radius",
-        ),
         ("end 0", "expected end, found end 0"),
     ];
-    for (line, told) in rows {
-        let text = format!("page 4 3 0  # a page\n\n{line}  # wrong\nend\n");
-        assert_eq!(wrong(&text), format!("line 3: {told}"));
+    assert_wrong_records(&rows);
+
+    for line in ["player 0", "bigdisc 1 1 5", "bigring 1 1 5 2"] {
+        let of_version_1 = format!("page 4 3 0 version 1\nlevel 9\n{line}\nend\n");
+        let told = "line 3: refused 4: the version of the list has no record of this kind";
+        assert_eq!(wrong(&of_version_1), told);
     }
 
-    let of_version_1 = "page 4 3 0 version 1\nlevel 9\nplayer 0\nend\n";
-    let told = "line 3: refused 4: the version of the list has no record of this kind";
-    assert_eq!(wrong(of_version_1), told);
-
-    for line in ["page 4 3 0", "Level 3", "players 3", "circle 1 1 5", "3"] {
+    for line in [
+        "page 4 3 0",
+        "Level 3",
+        "players 3",
+        "circle 1 1 5",
+        "big disc 1 1 5",
+        "3",
+    ] {
         let text = format!("page 4 3 0\n{line}\nend\n");
         assert_eq!(
             wrong(&text),

@@ -18,7 +18,7 @@ fn fraction(n: i128, d: i128) -> Fraction {
     }
 }
 
-/// The coverage query: 7 for the shape, then for the pixel, then 9, 10, 11.
+/// The coverage query: 7 for the shape, then for the pixel, then 9, 10, 33, 11.
 pub fn query(shape: &Shape, x: i16, y: i16) -> Result<Fraction, Refused> {
     let refusal = shape
         .coordinate_refusal()
@@ -154,7 +154,8 @@ fn approximate_line(line: &Line, x: i32, y: i32) -> Fraction {
     fraction(n, 4 * l)
 }
 
-/// Y(k): the whole number nearest to 256 times the square root of radius² − k², and 0 beyond.
+/// Y(k): the whole number nearest to 256 times the square root of radius² − k², and 0 beyond. Above
+/// radius 256 it may lie on a row line that the circle passes, or does not reach.
 pub fn height(radius: u16, k: i128) -> i128 {
     let radius = i128::from(radius);
     if k > radius {
@@ -184,19 +185,24 @@ fn disc_cover(radius: u16, x: i32, y: i32, centre_x: i16, centre_y: i16) -> i128
     let across = fold(i128::from(x) - i128::from(centre_x));
     let down = fold(i128::from(y) - i128::from(centre_y));
     let (m, n) = (across.min(down), across.max(down));
-    let inside = |k: i128| (height(radius, k) - 256 * n).clamp(0, 256);
-    inside(m) + inside(m + 1)
+    chord_cover(height(radius, m), height(radius, m + 1), n)
+}
+
+/// C(m) + C(m + 1), from the heights Y(m) and Y(m + 1).
+pub fn chord_cover(one: i128, next: i128, n: i128) -> i128 {
+    let inside = |height: i128| (height - 256 * n).clamp(0, 256);
+    inside(one) + inside(next)
 }
 
 #[cfg(test)]
 mod tests {
     use super::*;
     use crate::refusal::Refusal;
-    use crate::shape::{Disc, Ring};
+    use crate::shape::{Disc, Ring, LARGEST_RADIUS};
 
     #[test]
     fn heights_are_nearest_and_without_ties() {
-        for radius in 1..=255u16 {
+        for radius in 1..=LARGEST_RADIUS {
             for k in 0..i128::from(radius) {
                 let y = height(radius, k);
                 let squares = (1 << 18) * (i128::from(radius).pow(2) - k * k);
@@ -234,23 +240,67 @@ mod tests {
 
     #[test]
     fn refusals_come_in_order() {
-        let number = |shape, x| query(&shape, x, 0).map_err(|refusal| refusal.number);
-        let ring = Ring {
+        for big in [false, true] {
+            let ring = |radius, width, x| {
+                let (centre, y) = (0, 0);
+                let ring = Shape::Ring(Ring {
+                    x: centre,
+                    y,
+                    radius,
+                    width,
+                    big,
+                });
+                query(&ring, x, y).map_err(|refused| refused.number)
+            };
+            assert_eq!(ring(0, 0, 4096), Err(Refusal::Coordinate.number()));
+            assert_eq!(ring(0, 0, 0), Err(Refusal::Radius.number()));
+            assert_eq!(ring(1024, 0, 0), Err(Refusal::RadiusTooLarge.number()));
+            assert_eq!(ring(u16::MAX, 1, 0), Err(Refusal::RadiusTooLarge.number()));
+            assert_eq!(ring(1023, 1024, 0), Err(Refusal::RingWidth.number()));
+            assert_eq!(ring(1023, 0, 0), Err(Refusal::RingWidth.number()));
+            assert_eq!(ring(1023, 1023, 0), Ok(Fraction { n: 512, d: 512 }));
+        }
+    }
+
+    fn disc_query(radius: u16, x: i16, y: i16) -> Fraction {
+        let disc = Shape::Disc(Disc {
             x: 0,
             y: 0,
-            radius: 0,
-            width: 0,
+            radius,
+            big: false,
+        });
+        query(&disc, x, y).expect("a lawful disc")
+    }
+
+    /// Next to its top a circle of radius 257 is below row line 257, and the height is on it.
+    #[test]
+    fn a_height_may_round_up_to_a_row_line() {
+        assert_eq!(height(257, 1), 256 * 257);
+        for (x, y) in [(0, 256), (-1, 256), (256, 0), (-257, -1)] {
+            assert_eq!(disc_query(257, x, y), Fraction { n: 512, d: 512 });
+        }
+    }
+
+    /// The circle passes row line 268: 273² − 52² = 268² + 1. The height is on that line.
+    #[test]
+    fn a_height_may_round_down_to_a_row_line() {
+        assert_eq!(273_i128.pow(2) - 52_i128.pow(2), 268_i128.pow(2) + 1);
+        assert_eq!(height(273, 52), 256 * 268);
+        for (x, y) in [(52, 268), (-53, 268), (268, 52), (-269, -53)] {
+            assert_eq!(disc_query(273, x, y), Fraction { n: 0, d: 512 });
+        }
+    }
+
+    /// Up to radius 256 a height lies on a row line only where the circle does.
+    #[test]
+    fn heights_on_row_lines() {
+        let on_a_line = |radius: u16| {
+            let square = |k: i128| i128::from(radius).pow(2) - k * k;
+            let heights = (0..i128::from(radius)).map(|k| (height(radius, k), square(k)));
+            let mut on_lines = heights.filter(|(y, _)| y % 256 == 0);
+            on_lines.all(|(y, square)| (y / 256).pow(2) == square)
         };
-        assert_eq!(
-            number(Shape::Ring(ring), 4096),
-            Err(Refusal::Coordinate.number())
-        );
-        assert_eq!(number(Shape::Ring(ring), 0), Err(Refusal::Radius.number()));
-        let disc = Disc {
-            x: 0,
-            y: 0,
-            radius: 256,
-        };
-        assert_eq!(number(Shape::Disc(disc), 0), Err(Refusal::Radius.number()));
+        assert!((1..=256).all(on_a_line));
+        assert!((257..=LARGEST_RADIUS).any(|radius| !on_a_line(radius)));
     }
 }

@@ -53,9 +53,9 @@ pub fn encode_header(header: &Header) -> Vec<u8> {
     bytes
 }
 
-/// 4 unless the version has this kind: version 1 has 0 to 6, and version 2 has 7 too.
+/// 4 unless the version has this kind: version 1 has 0 to 6, and version 2 has 7 to 9 too.
 pub fn kind_refusal(kind: u8, version: u16) -> Option<Refusal> {
-    let last = if version == 1 { 6 } else { 7 };
+    let last = if version == 1 { 6 } else { 9 };
     (kind > last).then_some(Refusal::UnknownKind)
 }
 
@@ -69,6 +69,8 @@ fn record_length(kind: u8) -> usize {
         5 => 6,
         6 => 7,
         7 => 2,
+        8 => 7,
+        9 => 9,
         _ => panic!("no version has kind {kind}"),
     }
 }
@@ -86,17 +88,8 @@ pub fn decode_record(bytes: &[u8], version: u16) -> Result<(Record, usize), Refu
         1 => Record::Setting(Setting::Clip(decode_clip(bytes))),
         2 => Record::Setting(Setting::Level(bytes[1])),
         3 | 4 => Record::Shape(Shape::Line(decode_line(bytes))),
-        5 => Record::Shape(Shape::Disc(Disc {
-            x: signed(bytes, 1),
-            y: signed(bytes, 3),
-            radius: bytes[5].into(),
-        })),
-        6 => Record::Shape(Shape::Ring(Ring {
-            x: signed(bytes, 1),
-            y: signed(bytes, 3),
-            radius: bytes[5].into(),
-            width: bytes[6].into(),
-        })),
+        5 | 8 => Record::Shape(Shape::Disc(decode_disc(bytes))),
+        6 | 9 => Record::Shape(Shape::Ring(decode_ring(bytes))),
         _ => Record::Setting(Setting::Player(bytes[1])),
     };
     Ok((record, length))
@@ -121,6 +114,38 @@ fn decode_line(bytes: &[u8]) -> Line {
     }
 }
 
+/// Kind 5 has one byte for the radius, and kind 8 two.
+fn decode_disc(bytes: &[u8]) -> Disc {
+    let big = bytes[0] == 8;
+    Disc {
+        x: signed(bytes, 1),
+        y: signed(bytes, 3),
+        radius: if big {
+            unsigned(bytes, 5)
+        } else {
+            bytes[5].into()
+        },
+        big,
+    }
+}
+
+/// Kind 6 has one byte each for the radius and the width, and kind 9 two.
+fn decode_ring(bytes: &[u8]) -> Ring {
+    let big = bytes[0] == 9;
+    let (radius, width) = if big {
+        (unsigned(bytes, 5), unsigned(bytes, 7))
+    } else {
+        (bytes[5].into(), bytes[6].into())
+    };
+    Ring {
+        x: signed(bytes, 1),
+        y: signed(bytes, 3),
+        radius,
+        width,
+        big,
+    }
+}
+
 /// The kind byte of a record.
 pub fn kind_of(record: &Record) -> u8 {
     match record {
@@ -129,13 +154,15 @@ pub fn kind_of(record: &Record) -> u8 {
         Record::Setting(Setting::Level(_)) => 2,
         Record::Shape(Shape::Line(line)) if line.exact => 3,
         Record::Shape(Shape::Line(_)) => 4,
+        Record::Shape(Shape::Disc(disc)) if disc.big => 8,
         Record::Shape(Shape::Disc(_)) => 5,
+        Record::Shape(Shape::Ring(ring)) if ring.big => 9,
         Record::Shape(Shape::Ring(_)) => 6,
         Record::Setting(Setting::Player(_)) => 7,
     }
 }
 
-/// The bytes of a record that is not refused.
+/// The bytes of a record whose numbers fit them, as those of one that is not refused do.
 pub fn encode_record(record: &Record) -> Vec<u8> {
     let mut bytes = vec![kind_of(record)];
     match record {
@@ -151,18 +178,24 @@ pub fn encode_record(record: &Record) -> Vec<u8> {
         }
         Record::Shape(Shape::Disc(disc)) => {
             bytes.extend([disc.x, disc.y].map(i16::to_le_bytes).iter().flatten());
-            bytes.push(one_byte(disc.radius));
+            bytes.extend(encode_measure(disc.radius, disc.big));
         }
         Record::Shape(Shape::Ring(ring)) => {
             bytes.extend([ring.x, ring.y].map(i16::to_le_bytes).iter().flatten());
-            bytes.extend([one_byte(ring.radius), one_byte(ring.width)]);
+            bytes.extend(encode_measure(ring.radius, ring.big));
+            bytes.extend(encode_measure(ring.width, ring.big));
         }
     }
     bytes
 }
 
-fn one_byte(value: u16) -> u8 {
-    u8::try_from(value).expect("a lawful radius or width fits one byte")
+/// A radius or a width: two bytes in a big record, else one.
+fn encode_measure(measure: u16, big: bool) -> Vec<u8> {
+    if big {
+        measure.to_le_bytes().to_vec()
+    } else {
+        vec![u8::try_from(measure).expect("a radius or width of a small record fits one byte")]
+    }
 }
 
 fn unsigned(bytes: &[u8], at: usize) -> u16 {

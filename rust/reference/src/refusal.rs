@@ -18,6 +18,7 @@ pub enum Refusal {
     NoRoom = 22,
     Player = 31,
     Lights = 32,
+    RadiusTooLarge = 33,
 }
 
 impl Refusal {

@@ -6,7 +6,9 @@ use crate::refusal::Refusal;
 pub const LOWEST_COORDINATE: i16 = -4096;
 pub const HIGHEST_COORDINATE: i16 = 4095;
 pub const LARGEST_SIDE: u16 = 1024;
-pub const LARGEST_RADIUS: u16 = 255;
+pub const LARGEST_RADIUS: u16 = 1023;
+/// The largest radius of a record that has one byte for it.
+const LARGEST_BYTE: u16 = 255;
 pub const LATEST_VERSION: u16 = 2;
 /// Players are 0 to 7.
 pub const PLAYERS: usize = 8;
@@ -25,6 +27,8 @@ pub struct Disc {
     pub x: i16,
     pub y: i16,
     pub radius: u16,
+    /// Written as kind 8, whose radius has two bytes; kind 5 has one byte. Only records look at it.
+    pub big: bool,
 }
 
 #[derive(Clone, Copy, Debug, PartialEq, Eq)]
@@ -33,6 +37,9 @@ pub struct Ring {
     pub y: i16,
     pub radius: u16,
     pub width: u16,
+    /// Written as kind 9, whose radius and width have two bytes each; kind 6 has one byte each. Only
+    /// records look at it.
+    pub big: bool,
 }
 
 #[derive(Clone, Copy, Debug, PartialEq, Eq)]
@@ -102,14 +109,32 @@ fn player_refusal(player: u8) -> Option<Refusal> {
     (usize::from(player) >= PLAYERS).then_some(Refusal::Player)
 }
 
-fn radius_refusal(radius: u16) -> Option<Refusal> {
-    (radius == 0 || radius > LARGEST_RADIUS).then_some(Refusal::Radius)
+/// 10 for 0, then 33 above the largest.
+fn radius_refusal(radius: u16, largest: u16) -> Option<Refusal> {
+    if radius == 0 {
+        Some(Refusal::Radius)
+    } else {
+        (radius > largest).then_some(Refusal::RadiusTooLarge)
+    }
+}
+
+/// 11 unless the width is from 1 to the radius.
+fn width_refusal(ring: &Ring) -> Option<Refusal> {
+    (ring.width == 0 || ring.width > ring.radius).then_some(Refusal::RingWidth)
 }
 
 impl Shape {
-    /// The first of 7, 9, 10, 11 that the shape's kind has and the shape earns.
+    /// The first of 7, 9, 10, 33, 11 that the shape's kind has and the shape earns in a call that
+    /// draws it.
     pub fn first_refusal(&self) -> Option<Refusal> {
         self.coordinate_refusal().or_else(|| self.form_refusal())
+    }
+
+    /// The same of a record, which has one byte for a radius unless it is big.
+    fn record_refusal(&self) -> Option<Refusal> {
+        let largest = |big| if big { LARGEST_RADIUS } else { LARGEST_BYTE };
+        self.coordinate_refusal()
+            .or_else(|| self.form_refusal_by(largest))
     }
 
     /// 7 for a line's ends or a circle's centre.
@@ -121,16 +146,21 @@ impl Shape {
         }
     }
 
-    /// 9 for a line; 10 for a disc; 10, then 11 for a ring.
+    /// 9 for a line; 10, then 33 for a disc; 10, 33, then 11 for a ring.
     pub fn form_refusal(&self) -> Option<Refusal> {
+        self.form_refusal_by(|_| LARGEST_RADIUS)
+    }
+
+    /// The same with the largest radius of big shapes and of others.
+    fn form_refusal_by(&self, largest: impl Fn(bool) -> u16) -> Option<Refusal> {
         match self {
             Shape::Line(line) => {
                 ((line.x0, line.y0) == (line.x1, line.y1)).then_some(Refusal::EqualEnds)
             }
-            Shape::Disc(disc) => radius_refusal(disc.radius),
-            Shape::Ring(ring) => radius_refusal(ring.radius).or_else(|| {
-                (ring.width == 0 || ring.width > ring.radius).then_some(Refusal::RingWidth)
-            }),
+            Shape::Disc(disc) => radius_refusal(disc.radius, largest(disc.big)),
+            Shape::Ring(ring) => {
+                radius_refusal(ring.radius, largest(ring.big)).or_else(|| width_refusal(ring))
+            }
         }
     }
 }
@@ -158,13 +188,14 @@ impl Clip {
 }
 
 impl Record {
-    /// The first of 7 to 11 and 31 that the record's kind has and its fields earn on this page.
+    /// The first of 7, 8, 9, 10, 33, 11 and 31 that the record's kind has and its fields earn on this
+    /// page.
     pub fn first_refusal(&self, width: u16, height: u16) -> Option<Refusal> {
         match self {
             Record::End | Record::Setting(Setting::Level(_)) => None,
             Record::Setting(Setting::Clip(clip)) => clip.first_refusal(width, height),
             Record::Setting(Setting::Player(player)) => player_refusal(*player),
-            Record::Shape(shape) => shape.first_refusal(),
+            Record::Shape(shape) => shape.record_refusal(),
         }
     }
 }

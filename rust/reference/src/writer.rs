@@ -24,8 +24,8 @@ impl Writer<'_> {
         Ok(())
     }
 
-    /// Tried 2 and 3 for what is held, 4 for a kind that the version lacks, then 7 to 11 and 31 as
-    /// the kind has them, then 22.
+    /// Tried 2 and 3 for what is held, 4 for a kind that the version lacks, then 7, 8, 9, 10, 33, 11
+    /// and 31 as the kind has them, then 22.
     pub fn write_record(&mut self, record: &Record) -> Result<(), Refused> {
         let Basis {
             version,
@@ -59,6 +59,80 @@ impl Writer<'_> {
 #[cfg(test)]
 mod tests {
     use super::*;
+    use crate::reader::read_record;
+    use crate::shape::{Disc, Ring, Shape};
+
+    fn disc(radius: u16, big: bool) -> Record {
+        let (x, y) = (-1, 2);
+        Record::Shape(Shape::Disc(Disc { x, y, radius, big }))
+    }
+
+    fn ring(radius: u16, width: u16, big: bool) -> Record {
+        Record::Shape(Shape::Ring(Ring {
+            x: -1,
+            y: 2,
+            radius,
+            width,
+            big,
+        }))
+    }
+
+    /// What the writer says of a record where there are so many bytes left, and those written.
+    fn written(version: u16, record: Record, left: usize) -> Result<Vec<u8>, u64> {
+        let mut list = vec![0; HEADER_LENGTH + left];
+        let basis = Basis {
+            version,
+            width: 1,
+            height: 1,
+        };
+        let mut writer = Writer {
+            list: &mut list,
+            place: HEADER_LENGTH,
+            basis,
+        };
+        let outcome = writer.write_record(&record);
+        let place = writer.place;
+        outcome.map_err(|refused| refused.number)?;
+        assert_eq!(
+            read_record(&list[HEADER_LENGTH..place], basis).0,
+            Ok(record)
+        );
+        Ok(list[HEADER_LENGTH..place].to_vec())
+    }
+
+    #[test]
+    fn a_radius_has_one_byte_or_two() {
+        for (record, bytes) in [
+            (disc(200, false), vec![5, 255, 255, 2, 0, 200]),
+            (disc(200, true), vec![8, 255, 255, 2, 0, 200, 0]),
+            (disc(300, true), vec![8, 255, 255, 2, 0, 44, 1]),
+            (ring(200, 9, false), vec![6, 255, 255, 2, 0, 200, 9]),
+            (ring(200, 9, true), vec![9, 255, 255, 2, 0, 200, 0, 9, 0]),
+            (ring(1023, 258, true), vec![9, 255, 255, 2, 0, 255, 3, 2, 1]),
+        ] {
+            assert_eq!(written(2, record, 9), Ok(bytes));
+        }
+    }
+
+    #[test]
+    fn refusals_of_a_radius_come_in_order() {
+        for (version, record, left, number) in [
+            (1, disc(300, true), 9, 4),
+            (1, ring(0, 0, true), 9, 4),
+            (2, disc(0, false), 0, 10),
+            (2, ring(0, 0, true), 0, 10),
+            (1, disc(256, false), 0, 33),
+            (2, disc(300, false), 0, 33),
+            (2, ring(300, 0, false), 9, 33),
+            (2, ring(1024, 1025, true), 9, 33),
+            (2, ring(300, 301, true), 0, 11),
+            (2, ring(255, 256, false), 0, 11),
+            (2, disc(300, true), 6, 22),
+            (2, ring(300, 300, true), 8, 22),
+        ] {
+            assert_eq!(written(version, record, left), Err(number), "{record:?}");
+        }
+    }
 
     #[test]
     fn only_the_first_65536_bytes_serve() {

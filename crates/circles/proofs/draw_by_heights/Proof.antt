@@ -9,7 +9,7 @@ use Rattle.circles.proofs.draw_by_heights.Statement.{statement}
 use Rattle.circles.proofs.draw_by_heights.Tie as tie
 
 -- the states behind the outer heights, and at entry
-abbrev filled : tie.After-heights2 → tie.After-heights
+abbrev filled : tie.After-hole-heights → tie.After-heights
 filled c = c .before .before .before .before
 
 abbrev start : tie.After-heights → tie.Start
@@ -18,14 +18,14 @@ start c = c .before .before .before .before .before .before
 outer-held : (c : tie.After-heights) → at (c .heights .last .0) ≡ heightOf (start c .args .ring .radius)
 outer-held c = held (c .heights .last .0) _ (c .heights .ensures .each)
 
-inner-held : (c : tie.After-heights2) → at (c .heights2 .last .0) ≡ heightOf (start (filled c) .args .ring .hole)
-inner-held c = held (c .heights2 .last .0) _ (c .heights2 .ensures .each)
+inner-held : (c : tie.After-hole-heights) → at (c .hole-heights .last .0) ≡ heightOf (start (filled c) .args .ring .hole)
+inner-held c = held (c .hole-heights .last .0) _ (c .hole-heights .ensures .each)
 
 heights-requires : tie.Need-heights-requires
 heights-requires c κs = let s = c .before .before .before .before .before in (s .pre .0 .2, s .pre .1 .0 .room, s .pre .1 .0 .each)
 
-heights-requires-2 : tie.Need-heights-requires-2
-heights-requires-2 c κs = let s = c .before .before .before .before .before .before .before .before .before in (omega (arith, s .pre .0 .1, s .pre .0 .2), s .pre .1 .1 .room, s .pre .1 .1 .each)
+hole-heights-requires : tie.Need-hole-heights-requires
+hole-heights-requires c κs = let s = c .before .before .before .before .before .before .before .before .before in (omega (arith, s .pre .0 .1, s .pre .0 .2), s .pre .1 .1)
 
 draw-held-requires : tie.Need-draw-held-requires
 draw-held-requires c κs =
@@ -38,7 +38,7 @@ draw-held-requires c κs =
       placed = s .pre .0 .0;
       circles =
           circles-of (s .args .ring) _ _ (s .pre .0 .1) (s .pre .0 .2) (outer-held first) (inner-held hs)
-          (omega (arith, first .heights .ensures .size, outer)) (omega (arith, hs .heights2 .ensures .size, inner));
+          (omega (arith, first .heights .ensures .size, outer)) (omega (arith, hs .hole-heights .ensures .size, inner));
     }
 
 returns : tie.Need-returns
@@ -51,7 +51,7 @@ draw-by-heights-spec =
     tie.close
     (tie.spec
     heights-requires
-    heights-requires-2
+    hole-heights-requires
     draw-held-requires
     (λ c. search needs)
     (λ c. search needs)

@@ -1,7 +1,7 @@
 -- The arrays are zeros and long enough.
 use Prim.Native.Nat.{_+_}
 use native.Mathlib.Omega.{arith}
-use Rattle.shapes.specs.Limits.{radiusMost}
+use Rattle.circles.specs.inner.Row.{largeMost}
 use Rattle.coverage.proofs.Height.{zeros}
 use borrow.Author.Needs.{needs}
 use Rattle.circles.proofs.draw_large.Statement.{statement}
@@ -11,7 +11,7 @@ draw-by-heights-requires : tie.Need-draw-by-heights-requires
 draw-by-heights-requires c κs =
     let s = c .before .before .before .before .before in (
       (s .pre .0, s .pre .1, omega arith),
-      (record { room = omega arith; each = zeros (radiusMost + 2) }, record { room = omega arith; each = zeros (radiusMost + 2) }),
+      (record { room = omega arith; each = zeros (largeMost + 2) }, record { room = omega arith; each = zeros (largeMost + 2) }),
     )
 
 pub draw-large-spec : {M : Type 1} → statement M

@@ -1,16 +1,26 @@
 -- A ring is what lies between its two circles.
 use mathlib.Core.Path.{_≡_, refl, ap}
-use Prim.Native.Nat.{_-_}
+use mathlib.Core.List.{List}
+use Prim.Native.Nat.{ℕ, _-_, _≤_}
 use native.Mathlib.Omega.{arith}
+use borrow.Author.Needs.{needs}
+use Rattle.numbers.specs.inner.Offset.{offsetMost}
+use Rattle.shapes.specs.Limits.{radiusMost}
 use Rattle.shapes.specs.inner.Offsets.{pointOf}
 use Rattle.shapes.specs.declared.Point.{Point}
+use Rattle.shapes.specs.declared.Ring.{Ring as Given}
 use Rattle.shapes.specs.declared.Shape.the-variants.{Ring as asShape}
-use Rattle.shapes.proofs.Limits.{ring-lawful, point-kept}
-use Rattle.coverage.specs.Coverage.{rulesOf}
+use Rattle.shapes.proofs.Limits.{LawfulRing, ring-lawful, point-kept}
+use Rattle.coverage.specs.Circle.{heightOf}
+use Rattle.coverage.specs.Coverage.{rulesOf, drawnD}
 use Rattle.coverage.specs.inner.OnPage.{shapeOn}
+use Rattle.lights.specs.inner.Palette.{lightsIn}
+use Rattle.page.specs.inner.Ink.{inkOf}
+use Rattle.page.specs.inner.Paint.{DrawnIn}
 use Rattle.page.proofs.Drawn.{drawn-same}
+use Rattle.circles.specs.inner.Row.{betweenOn, Inked}
+use Rattle.circles.specs.declared.Ring.{Ring}
 use Rattle.circles.proofs.Shape.{ring-on}
-use borrow.Author.Needs.{needs}
 use Rattle.circles.proofs.draw_ring.Statement.{statement}
 use Rattle.circles.proofs.draw_ring.Tie as tie
 
@@ -27,25 +37,62 @@ start c = c .before .before .before .before .before
 sub-t9 : tie.Need-sub-t9
 sub-t9 c = let s = start (c .before .before) in ring-lawful (s .args .ring) (s .pre .2) .most
 
-draw-between-requires : tie.Need-draw-between-requires
-draw-between-requires c κs =
-    let p = c .before .before .before .before in
-    let s = start p in
-    let w = ring-lawful (s .args .ring) (s .pre .2) in
-    (record { palette-is = s .pre .0; scale-is = c .before .scale-of .ensures; level-most = omega (arith, s .fits .level) }, s .pre .1, rw (centre p) (omega (arith, w .circle .x-in .less)), rw (centre p) (omega (arith, w .circle .y-in .less)), omega arith, w .circle .most)
+-- what is drawn, and what either call needs of it but for the radius
+module _ (c : tie.After-scale-of) where
+  abbrev point : tie.After-point-of
+  point = c .before .before .before
 
-returns : tie.Need-returns
-unfolding rulesOf
-returns c =
-    let d = c .before .before in
-    let p = d .before .before .before .before .before in
-    let s = start p in
-    let g = s .args .ring in
-    let centre-is = centre p in
-    drawn-same (shapeOn (asShape g)) (s .pre .1)
-    (ring-on g (record { cx = p .point-of .result .x; cy = p .point-of .result .y; radius = g .radius; hole = g .radius - g .width; level = s .args .level; m = d .before .before .scale-of .result })
-    (s .pre .2) (ap (λ (c : Point). c .x) centre-is) (ap (λ (c : Point). c .y) centre-is) refl)
-    (d .draw-between .ensures)
+  abbrev entry : tie.Start
+  entry = start point
+
+  abbrev g : Given
+  g = entry .args .ring
+
+  abbrev inner : Ring
+  inner =
+      record { cx = point .point-of .result .x; cy = point .point-of .result .y; radius = g .radius; hole = g .radius - g .width; level = entry .args .level; m = c .scale-of .result }
+
+  inked : Inked (entry .args .palette .now) inner
+  inked = record { palette-is = entry .pre .0; scale-is = c .scale-of .ensures; level-most = omega (arith, entry .fits .level) }
+
+  lawful : LawfulRing radiusMost g
+  lawful = ring-lawful g (entry .pre .2)
+
+  across : point .point-of .result .x ≤ offsetMost
+  across = rw (centre point) (omega (arith, lawful .circle .x-in .less))
+
+  down : point .point-of .result .y ≤ offsetMost
+  down = rw (centre point) (omega (arith, lawful .circle .y-in .less))
+
+  -- what lies between the two circles is the ring
+  shown : {m : List ℕ} {t : ℕ}
+      → DrawnIn (entry .args .view) (inkOf (lightsIn (entry .args .palette .now)) (entry .args .level) 512) (betweenOn (heightOf (inner .radius)) (heightOf (inner .hole)) inner) (entry .args .page .now) m t
+      → DrawnIn (entry .args .view) (inkOf (lightsIn (entry .args .palette .now)) (entry .args .level) (drawnD (asShape g))) (shapeOn (asShape g)) (entry .args .page .now) m t
+  unfolding rulesOf
+  shown =
+      drawn-same (shapeOn (asShape g)) (entry .pre .1)
+      (ring-on g inner (entry .pre .2) (ap (λ (c : Point). c .x) (centre point)) (ap (λ (c : Point). c .y) (centre point)) refl)
+
+draw-lesser-requires : tie.Need-draw-lesser-requires
+draw-lesser-requires c κs =
+    let s = c .before .before .before in
+    (inked s, entry s .pre .1, across s, down s, omega arith, c .before .if1 .taken)
+
+draw-greater-requires : tie.Need-draw-greater-requires
+draw-greater-requires c κs =
+    let s = c .before .before .before in
+    (inked s, entry s .pre .1, across s, down s, omega arith, lawful s .circle .most)
 
 pub draw-ring-spec : {M : Type 1} → statement M
-draw-ring-spec = tie.close (tie.spec (λ c κs. search needs) (λ c. search needs) sub-t9 (λ c. search needs) (λ c κs. search needs) draw-between-requires (λ c. search needs) returns)
+draw-ring-spec =
+    tie.close
+    (tie.spec
+    (λ c κs. search needs) (λ c. search needs)
+    sub-t9
+    (λ c. search needs) (λ c κs. search needs)
+    draw-lesser-requires
+    (λ c. search needs)
+    (λ c. shown (c .before .before .before .before .before .before) (c .before .before .draw-lesser .ensures))
+    draw-greater-requires
+    (λ c. search needs)
+    (λ c. shown (c .before .before .before .before .before .before) (c .before .before .draw-greater .ensures)))

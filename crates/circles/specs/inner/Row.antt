@@ -84,9 +84,15 @@ pub record Reached (view : View) (ring : Ring) : Type 0 where
   pub columns : (x : ℕ) → view .x0 ≤ x → x < view .x1 → apart (ring .cx) (x + origin) < ring .radius
   pub rows : (y : ℕ) → view .y0 ≤ y → y < view .y1 → apart (ring .cy) (y + origin) < ring .radius
 
--- the greatest radius whose heights are held in a short array
+-- the greatest radii whose heights are held in shorter arrays
 abbrev pub smallMost : ℕ
 smallMost = 32
+
+abbrev pub middleMost : ℕ
+middleMost = 255
+
+abbrev pub largeMost : ℕ
+largeMost = 511
 
 -- what a ring is blended by: a palette, its scale of 512, and a level that is a byte
 pub record Inked (palette : List ℕ) (ring : Ring) : Type 0 where

@@ -1,9 +1,14 @@
 -- Distances from a circle's centre, and the search for its heights.
 use mathlib.Core.Path.{_≡_}
 use mathlib.Core.List.{List}
-use Prim.Native.Nat.{ℕ, _+_, _-_, _≤_, _<_}
+use Prim.Native.Nat.{ℕ, _+_, _-_, _*_, _≤_, _<_}
 use lib.ListN.{length, getD}
+use Rattle.shapes.specs.Limits.{radiusMost}
 use Rattle.coverage.specs.Circle.{halfRoot, heightOf}
+
+-- above every height of a circle
+abbrev pub heightMost : ℕ
+heightMost = 256 * (radiusMost + 1)
 
 -- how far a pixel is from the centre along one axis, by the offsets x and c: `folded (x − c)`
 abbrev pub apart : ℕ → ℕ → ℕ

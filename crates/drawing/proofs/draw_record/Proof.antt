@@ -4,6 +4,7 @@ use native.Mathlib.Omega.{arith}
 use Rattle.numbers.specs.Sum.{total}
 use Rattle.shapes.specs.Limits.{shapeRefusal, recordRefusal}
 use Rattle.shapes.specs.declared.Record.{Record}
+use Rattle.shapes.proofs.Limits.{record-shape}
 use Rattle.lists.specs.Drawing.{drawingOf}
 use Rattle.drawing.specs.inner.Walk.{settingsOf, shapesPage}
 use Rattle.drawing.proofs.Records.{shape-drawn}
@@ -18,7 +19,7 @@ start c = c .before .before .before .before
 -- the shape has no refusal, since the record has none
 lawful : (c : tie.After-rec) → shapeRefusal (c .rec .given .0 .0) ≡ 0
 unfolding recordRefusal
-lawful c = subst (λ (r : Record). recordRefusal (start c .args .basis) r ≡ 0) (c .rec .given .1) (start c .pre .2)
+lawful c = record-shape (c .rec .given .0 .0) (subst (λ (r : Record). recordRefusal (start c .args .basis) r ≡ 0) (c .rec .given .1) (start c .pre .2))
 
 enum-told : tie.Need-enum-told
 enum-told c = search needs

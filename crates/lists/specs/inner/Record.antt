@@ -1,7 +1,9 @@
 -- The bytes of a record in an array.
+use mathlib.Core.Bool.{Bool}
 use mathlib.Core.List.{List, _++_}
 use Prim.Native.Nat.{ℕ, _-_, _≤_, _<_}
 use lib.ListN.{length, replicate}
+use Rattle.shapes.specs.Limits.{circleRoom}
 use Rattle.shapes.specs.declared.Shape.{Shape}
 use Rattle.shapes.specs.declared.Shape.the-variants.{Line as line, Disc as disc, Ring as ring}
 use Rattle.shapes.specs.declared.Record.{Record}
@@ -21,13 +23,17 @@ recordMost = 13
 abbrev pub padded : List ℕ → List ℕ
 padded bs = bs ++ replicate (recordMost - length bs) 0
 
--- a radius and a width are one byte each
-unfoldable pub OneByte : Shape → Type 0
-OneByte (line l) = Unit {0}
-OneByte (disc d) = d .radius ≤ 255
-OneByte (ring g) = (g .radius ≤ 255) × (g .width ≤ 255)
+-- a radius that a record has room for, and a width that is no greater
+abbrev pub CircleFits : Bool → ℕ → ℕ → Type 0
+CircleFits big radius width = (radius ≤ circleRoom big) × (width ≤ radius)
 
-abbrev pub OneByteRecord : Record → Type 0
-OneByteRecord end = Unit {0}
-OneByteRecord (setting g) = Unit {0}
-OneByteRecord (shape s) = OneByte s
+-- the radius and the width of a shape fit its record; a disc has the width 0
+unfoldable pub ShapeFits : Shape → Type 0
+ShapeFits (line l) = Unit {0}
+ShapeFits (disc d) = CircleFits (d .big) (d .radius) 0
+ShapeFits (ring g) = CircleFits (g .big) (g .radius) (g .width)
+
+abbrev pub RecordFits : Record → Type 0
+RecordFits end = Unit {0}
+RecordFits (setting g) = Unit {0}
+RecordFits (shape s) = ShapeFits s

@@ -1,11 +1,12 @@
 -- The tests are those of `disc-refusals`, by the offsets that the call gave: the coordinates come back from their locals as they were.
 use mathlib.Core.Path.{_≡_}
+use Prim.Native.Nat.{ℕ}
 use mathlib.Core.Bool.{cond, _||_}
 use borrow.Author.Needs.{needs}
-use borrow.Author.Tests.{lt-ltb, le-ltb}
-use lib.Dec.{ltb}
+use borrow.Author.Tests.{lt-ltb, le-ltb, eq-eqb, ne-eqb}
+use lib.Dec.{ltb, eqb}
 use Rattle.numbers.specs.inner.Offset.{offsetMost}
-use Rattle.shapes.specs.Limits.{radiusMost, shapeRefusal}
+use Rattle.shapes.specs.Limits.{refusalWithin}
 use Rattle.shapes.specs.declared.Disc.{Disc}
 use Rattle.shapes.specs.declared.Point.{Point}
 use Rattle.shapes.specs.declared.Shape.the-variants.{Disc as disc}
@@ -17,13 +18,16 @@ module _ (c : tie.After-point-of) where
   abbrev d : Disc
   d = c .before .before .before .args .disc
 
+  abbrev most : ℕ
+  most = c .before .before .before .args .most
+
   abbrev p : Point
   p = c .point-of .result
 
-  told : shapeRefusal (disc d) ≡ cond (ltb offsetMost (p .x) || ltb offsetMost (p .y)) 7 (cond (ltb (d .radius) 1 || ltb radiusMost (d .radius)) 10 0)
+  told : refusalWithin most (disc d) ≡ cond (ltb offsetMost (p .x) || ltb offsetMost (p .y)) 7 (cond (eqb (d .radius) 0) 10 (cond (ltb most (d .radius)) 33 0))
   told =
       let known = c .before .before .struct-told .given in
-      disc-refusals d p (point-kept (record { sfits = known .0 .1 }) (record { sfits = known .1 .0 .1 }) (c .point-of .ensures))
+      disc-refusals most d p (point-kept (record { sfits = known .0 .1 }) (record { sfits = known .1 .0 .1 }) (c .point-of .ensures))
 
 returns : tie.Need-returns
 returns c = simp (told (c .before .before), lt-ltb _ _ (c .if1 .taken))
@@ -37,21 +41,21 @@ returns-3 : tie.Need-returns-3
 returns-3 c =
     let two = c .before .before in
     let one = two .before .before in
-    simp (told (one .before .before), le-ltb _ _ (one .if1 .left), le-ltb _ _ (two .if2 .left), lt-ltb _ _ (c .if3 .taken))
+    simp (told (one .before .before), le-ltb _ _ (one .if1 .left), le-ltb _ _ (two .if2 .left), eq-eqb _ _ (c .if3 .taken))
 
 returns-4 : tie.Need-returns-4
 returns-4 c =
     let three = c .before .before in
     let two = three .before .before in
     let one = two .before .before in
-    simp (told (one .before .before), le-ltb _ _ (one .if1 .left), le-ltb _ _ (two .if2 .left), le-ltb _ _ (three .if3 .left), lt-ltb _ _ (c .if4 .taken))
+    simp (told (one .before .before), le-ltb _ _ (one .if1 .left), le-ltb _ _ (two .if2 .left), ne-eqb _ _ (three .if3 .left), lt-ltb _ _ (c .if4 .taken))
 
 returns-5 : tie.Need-returns-5
 returns-5 c =
     let three = c .before .before in
     let two = three .before .before in
     let one = two .before .before in
-    simp (told (one .before .before), le-ltb _ _ (one .if1 .left), le-ltb _ _ (two .if2 .left), le-ltb _ _ (three .if3 .left), le-ltb _ _ (c .if4 .left))
+    simp (told (one .before .before), le-ltb _ _ (one .if1 .left), le-ltb _ _ (two .if2 .left), ne-eqb _ _ (three .if3 .left), le-ltb _ _ (c .if4 .left))
 
 pub disc-refusal-spec : {M : Type 1} → statement M
 disc-refusal-spec = tie.close (tie.spec (λ c κs. search needs) returns returns-2 returns-3 returns-4 returns-5)

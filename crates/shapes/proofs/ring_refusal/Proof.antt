@@ -7,7 +7,7 @@ use borrow.Author.Needs.{needs}
 use borrow.Author.Tests.{lt-ltb, le-ltb}
 use lib.IntN.{ℤ}
 use lib.Dec.{ltb}
-use Rattle.shapes.specs.Limits.{shapeRefusal}
+use Rattle.shapes.specs.Limits.{refusalWithin}
 use Rattle.shapes.specs.declared.Ring.{Ring}
 use Rattle.shapes.specs.declared.Shape.the-variants.{Disc as disc, Ring as ring}
 use Rattle.shapes.proofs.Limits.{ring-refusals, kept}
@@ -18,17 +18,20 @@ module _ (c : tie.After-disc-refusal) where
   abbrev g : Ring
   g = c .before .before .args .ring
 
+  abbrev most : ℕ
+  most = c .before .before .args .most
+
   abbrev f : ℕ
   f = c .disc-refusal .result
 
   abbrev Told : ℕ → Type 0
-  Told k = shapeRefusal (ring g) ≡ cond (ltb 0 k) k (cond (ltb (g .width) 1 || ltb (g .radius) (g .width)) 11 0)
+  Told k = refusalWithin most (ring g) ≡ cond (ltb 0 k) k (cond (ltb (g .width) 1 || ltb (g .radius) (g .width)) 11 0)
 
   told : Told f
   told =
       let known = c .before .struct-told .given in
-      let same = ap₂ (λ (x y : ℤ). shapeRefusal (disc (record { x = x; y = y; radius = g .radius }))) (kept w16 (g .x) (known .0 .1)) (kept w16 (g .y) (known .1 .0 .1)) in
-      subst Told (sym (c .disc-refusal .ensures ∙ same)) (ring-refusals g)
+      let same = ap₂ (λ (x y : ℤ). refusalWithin most (disc (record { x = x; y = y; radius = g .radius; big = g .big }))) (kept w16 (g .x) (known .0 .1)) (kept w16 (g .y) (known .1 .0 .1)) in
+      subst Told (sym (c .disc-refusal .ensures ∙ same)) (ring-refusals most g)
 
 returns : tie.Need-returns
 returns c = simp (told (c .before), lt-ltb _ _ (c .if1 .taken))

@@ -1,11 +1,16 @@
--- Each arm gives the refusal of its shape.
+-- Each arm gives the refusal of its shape; that of a line is the same under any greatest radius.
+use mathlib.Core.Path.{sym, _∙_}
 use borrow.Author.Needs.{needs}
+use Rattle.shapes.proofs.Limits.{line-within}
 use Rattle.shapes.proofs.shape_refusal.Statement.{statement}
 use Rattle.shapes.proofs.shape_refusal.Tie as tie
+
+of-line : tie.Need-returns
+of-line c = rw (c .before .before .shape .given .1) (c .line-refusal .ensures ∙ sym (line-within _ _))
 
 pub shape-refusal-spec : {M : Type 1} → statement M
 shape-refusal-spec =
     tie.close
     (tie.spec
     (λ c. search needs) (λ c κs. search needs) (λ c. search needs) (λ c κs. search needs) (λ c. search needs)
-    (λ c κs. search needs) (λ c. cc) (λ c. cc) (λ c. cc))
+    (λ c κs. search needs) of-line (λ c. cc) (λ c. cc))

@@ -14,6 +14,7 @@ use greystroke::{
     Record, Refusal, Ring, Setting, Shape, Size, Writer, LATEST_VERSION, PLAYERS,
 };
 use std::hint::black_box;
+use std::ops::RangeInclusive;
 use std::time::{Duration, Instant};
 
 /// How long each ratio and each series of growth is measured.
@@ -23,6 +24,8 @@ const GROWTH_TIME: Duration = Duration::from_secs(2);
 const SIDE: u16 = 1024;
 const SHAPES: usize = 256;
 const LISTED_SHAPES: usize = 1000;
+/// Radii that one byte does not hold.
+const BIG_RADII: RangeInclusive<i64> = 256..=1023;
 const LONGEST_LIST: usize = 65_536;
 /// How often one shape is drawn between two looks at the clock.
 const REPEATS: usize = 32;
@@ -234,23 +237,24 @@ fn turned_line(random: &mut Random, one: (i16, i16), other: (i16, i16)) -> Shape
     })
 }
 
-/// A disc with its centre on the page, of radius 1 to `radius`.
-fn disc(random: &mut Random, radius: i64) -> Disc {
-    Disc {
-        x: random.between(0, i64::from(SIDE)) as i16,
-        y: random.between(0, i64::from(SIDE)) as i16,
-        radius: random.between(1, radius) as u16,
-    }
+/// A disc with its centre on the page and a radius of the range; big where one byte does not hold it.
+fn disc(random: &mut Random, radii: RangeInclusive<i64>) -> Disc {
+    let x = random.between(0, i64::from(SIDE)) as i16;
+    let y = random.between(0, i64::from(SIDE)) as i16;
+    let radius = random.between(*radii.start(), *radii.end()) as u16;
+    let big = radius > 255;
+    Disc { x, y, radius, big }
 }
 
 /// A ring of such a disc, of width 1 to `width` or to its radius.
-fn ring(random: &mut Random, radius: i64, width: i64) -> Shape {
-    let Disc { x, y, radius } = disc(random, radius);
+fn ring(random: &mut Random, radii: RangeInclusive<i64>, width: i64) -> Shape {
+    let Disc { x, y, radius, big } = disc(random, radii);
     Shape::Ring(Ring {
         x,
         y,
         radius,
         width: random.between(1, width.min(radius.into())) as u16,
+        big,
     })
 }
 
@@ -300,22 +304,35 @@ fn print_line_ratios() {
 
 fn print_circle_ratios() {
     let ways = with_codes(draw_shape as Draw, baseline::draw_shape);
-    for (name, radius) in [("discs_tiny", 4), ("discs_small", 20), ("discs", 255)] {
-        let inputs = format!("discs of radius 1 to {radius}, centre on the page");
+    for (name, radii) in [
+        ("discs_tiny", 1..=4),
+        ("discs_small", 1..=20),
+        ("discs", 1..=255),
+        ("discs_big", BIG_RADII),
+    ] {
+        let (least, most) = (radii.start(), radii.end());
+        let inputs = format!("discs of radius {least} to {most}, centre on the page");
         print_shape_ratio(name, &inputs, &ways, |random| {
-            Shape::Disc(disc(random, radius))
+            Shape::Disc(disc(random, radii.clone()))
         });
     }
-    for (name, radius, width) in [("rings_small", 20, 20), ("rings", 255, 255)] {
+    for (name, radii) in [
+        ("rings_small", 1..=20),
+        ("rings", 1..=255),
+        ("rings_big", BIG_RADII),
+    ] {
+        let (least, most) = (radii.start(), *radii.end());
         let inputs =
-            format!("rings of radius 1 to {radius}, width 1 to the radius, centre on the page");
-        print_shape_ratio(name, &inputs, &ways, |random| ring(random, radius, width));
+            format!("rings of radius {least} to {most}, width 1 to the radius, centre on the page");
+        print_shape_ratio(name, &inputs, &ways, |random| {
+            ring(random, radii.clone(), most)
+        });
     }
     print_shape_ratio(
         "rings_thin",
         "rings of radius 1 to 255, width 1 to 3, centre on the page",
         &ways,
-        |random| ring(random, 255, 3),
+        |random| ring(random, 1..=255, 3),
     );
 }
 
@@ -338,7 +355,7 @@ fn print_gamma_ratios() {
         "discs_gamma",
         "discs of radius 1 to 255, gamma of a screen",
         &ways,
-        |random| Shape::Disc(disc(random, 255)),
+        |random| Shape::Disc(disc(random, 1..=255)),
     );
 }
 
@@ -349,8 +366,8 @@ fn mixed_shape(random: &mut Random) -> Shape {
         0 | 1 => line_within(random, longer),
         2 => line_within(random, 16),
         3 => far_line(random),
-        4 => Shape::Disc(disc(random, 255)),
-        _ => ring(random, 255, 255),
+        4 => Shape::Disc(disc(random, 1..=255)),
+        _ => ring(random, 1..=255, 255),
     }
 }
 
@@ -423,7 +440,7 @@ fn full_list() -> Vec<u8> {
     }
     // A ring has seven bytes and a level two, so that the end record comes last.
     if writer.place.is_multiple_of(2) {
-        write(&mut writer, Record::Shape(ring(&mut random, 255, 255)));
+        write(&mut writer, Record::Shape(ring(&mut random, 1..=255, 255)));
     }
     while writer.place + 1 < LONGEST_LIST {
         write(&mut writer, Record::Setting(Setting::Level(9)));
@@ -521,7 +538,8 @@ fn middle_line(length: u16) -> Shape {
 
 fn middle_disc(radius: u16) -> Shape {
     let (x, y) = ((SIDE / 2) as i16, (SIDE / 2) as i16);
-    Shape::Disc(Disc { x, y, radius })
+    let big = radius > 255;
+    Shape::Disc(Disc { x, y, radius, big })
 }
 
 fn middle_ring(radius: u16) -> Shape {
@@ -530,6 +548,7 @@ fn middle_ring(radius: u16) -> Shape {
         y: (SIDE / 2) as i16,
         radius,
         width: radius / 8 + 1,
+        big: radius > 255,
     })
 }
 
@@ -543,7 +562,8 @@ fn print_shape_growth() {
     let lengths = [16, 64, 256, 1024, 2048, 4096];
     print_growth("line_length", on_page(&lengths, middle_line));
     println!("# disc_radius; ring_radius, of width 1 + radius / 8");
-    let radii = [1, 4, 16, 64, 128, 255];
+    println!("# at 1,023 the page lies inside the disc, and inside the hole of the ring");
+    let radii = [1, 4, 16, 64, 128, 255, 511, 1023];
     print_growth("disc_radius", on_page(&radii, middle_disc));
     print_growth("ring_radius", on_page(&radii, middle_ring));
 }
@@ -559,13 +579,14 @@ fn print_page_growth() {
         x1: 56,
         y1: 24,
     };
-    let (x, y, radius, width) = (32, 32, 24, 6);
-    let disc = Disc { x, y, radius };
+    let (x, y, radius, width, big) = (32, 32, 24, 6, false);
+    let disc = Disc { x, y, radius, big };
     let ring = Ring {
         x,
         y,
         radius,
         width,
+        big,
     };
     let shapes = [
         ("page_side_line", Shape::Line(line)),

@@ -5,6 +5,7 @@ use native.Mathlib.Omega.{arith}
 use borrow.Author.Needs.{needs}
 use Rattle.numbers.proofs.Order.{square-le}
 use Rattle.coverage.specs.Circle.{halfRoot}
+use Rattle.coverage.specs.inner.Circle.{heightMost}
 use Rattle.coverage.proofs.Height.{half-root-none, half-root-next, half-root-here}
 use Rattle.coverage.proofs.circle.half_root.Statement.{statement}
 use Rattle.coverage.proofs.circle.half_root.Tie as tie
@@ -16,7 +17,7 @@ abbrev μ-loop : tie.MeasureT-loop
 μ-loop y m t₀ t = t
 
 mul-if1 : tie.Need-mul-if1 Inv-loop μ-loop
-mul-if1 c = omega (arith, square-le {a = 2 * c .before .loop .t - 1} {b = 131072} (omega arith))
+mul-if1 c = omega (arith, square-le {a = 2 * c .before .loop .t - 1} {b = 2 * heightMost} (omega arith))
 
 returns : tie.Need-returns Inv-loop μ-loop
 returns c =

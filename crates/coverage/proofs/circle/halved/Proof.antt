@@ -2,6 +2,7 @@
 use Prim.Native.Nat.{_+_, _*_, _-_, _/_}
 use native.Mathlib.Omega.{arith}
 use Rattle.numbers.proofs.Order.{square-le}
+use Rattle.coverage.specs.inner.Circle.{heightMost}
 use Rattle.coverage.proofs.Chord.{narrowed-up, narrowed-down}
 use borrow.Author.Needs.{needs}
 use Rattle.coverage.proofs.circle.halved.Statement.{statement}
@@ -10,7 +11,7 @@ use Rattle.coverage.proofs.circle.halved.Tie as tie
 mul-if1 : tie.Need-mul-if1
 mul-if1 c =
     let middle = (c .args .low + c .args .high) / 2 in
-    omega (arith, square-le {a = 2 * middle - 1} {b = 131072} (omega arith))
+    omega (arith, square-le {a = 2 * middle - 1} {b = 2 * heightMost} (omega arith))
 
 returns : tie.Need-returns
 returns c =

@@ -1,12 +1,14 @@
--- The first k heights are held, the rest are 0, and y is not below the next one.
-use mathlib.Core.Path.{_≡_, refl, sym, _∙_}
+-- The heights before k = radius - left are held, the rest are 0, and y is not below the next one.
+use mathlib.Core.Path.{_≡_, refl, sym, _∙_, subst}
 use mathlib.Core.Logic.{⊎-elim}
+use mathlib.Core.List.{List}
 use Prim.Native.Nat.{ℕ, _+_, _-_, _*_, _≤_, _<_}
 use native.Mathlib.Omega.{arith}
 use lib.ListN.{length, getD, set, length-set}
 use lib.Seq.{getD-set-same, getD-set-other}
 use borrow.Author.Count.{below-more}
 use borrow.Author.Needs.{needs}
+use denote.Ref.{now}
 use Rattle.shapes.specs.Limits.{radiusMost}
 use Rattle.numbers.proofs.Order.{lt-or-le, square-le}
 use Rattle.coverage.specs.Circle.{halfRoot, heightOf}
@@ -14,17 +16,20 @@ use Rattle.coverage.proofs.Height.{half-root-le, half-root-from, half-r
 use Rattle.coverage.proofs.circle.heights.Statement.{statement}
 use Rattle.coverage.proofs.circle.heights.Tie as tie
 
-abbrev Inv-loop : tie.InvT-loop
-Inv-loop hs₀ radius y₀ step₀ k₀ hs y step k =
-    (k ≤ radius)
-    × (y ≤ 256 * radius)
-    × (262144 * (radius * radius - k * k) < (2 * y + 1) * (2 * y + 1))
-    × (length hs ≡ length hs₀)
-    × ((j : ℕ) → j < k → getD hs j 0 ≡ heightOf radius j)
+-- the heights before k are held in what was an array of zeros, the others are 0, and y is not below the height at k
+abbrev Filled : List ℕ → ℕ → ℕ → List ℕ → ℕ → Type 0
+Filled zeros R k hs y =
+    (y ≤ 256 * R)
+    × (262144 * (R * R - k * k) < (2 * y + 1) * (2 * y + 1))
+    × (length hs ≡ length zeros)
+    × ((j : ℕ) → j < k → getD hs j 0 ≡ heightOf R j)
     × ((j : ℕ) → k ≤ j → getD hs j 0 ≡ 0)
 
+abbrev Inv-loop : tie.InvT-loop
+Inv-loop hs₀ radius y₀ step₀ left₀ hs y step left = (left ≤ radius) × Filled hs₀ radius (radius - left) hs y
+
 abbrev μ-loop : tie.MeasureT-loop
-μ-loop hs₀ radius y₀ step₀ k₀ hs y step k = radius - k
+μ-loop hs₀ radius y₀ step₀ left₀ hs y step left = left
 
 -- next is the height at k: not above y, and not below the height at k + 1
 record Found (R k y next : ℕ) : Type 0 where
@@ -32,44 +37,45 @@ record Found (R k y next : ℕ) : Type 0 where
   most : next ≤ y
   above : 262144 * (R * R - (k + 1) * (k + 1)) < (2 * next + 1) * (2 * next + 1)
 
-found : (R k y start : ℕ) → y ≤ 256 * R → start ≤ y → 262144 * (R * R - k * k) < (2 * start + 1) * (2 * start + 1)
-    → Found R k y (halfRoot start (262144 * (R * R - k * k)))
+found : (R k y : ℕ) → y ≤ 256 * R → 262144 * (R * R - k * k) < (2 * y + 1) * (2 * y + 1) → Found R k y (halfRoot y (262144 * (R * R - k * k)))
 unfolding heightOf
-found R k y start h₁ h₂ h₃ =
+found R k y h₁ h₂ =
     let m = 262144 * (R * R - k * k) in
     record {
-      is = sym (half-root-from (256 * R) m start (omega arith) h₃);
-      most = omega (arith, half-root-le start m);
-      above = omega (arith, half-root-high start m h₃);
+      is = sym (half-root-from (256 * R) m y h₁ h₂);
+      most = half-root-le y m;
+      above = omega (arith, half-root-high y m h₂);
     }
 
-here : (c : tie.After-half-root Inv-loop μ-loop) → let l = c .before .before .before in Found (l .before .before .args .radius) (l .loop .k) (l .loop .y) (c .half-root .result)
+-- where the loop stands
+module _ (c : tie.At-loop Inv-loop μ-loop) where
+  abbrev R : ℕ
+  R = c .before .before .args .radius
+
+  abbrev k : ℕ
+  k = R - c .loop .left
+
+here : (c : tie.After-next-height Inv-loop μ-loop) → let l = c .before .before in Found (R l) (k l) (l .loop .y) (c .next-height .result)
 here c =
-    let l = c .before .before .before .loop in
-    let s = c .before .search-start in
-    rw (c .half-root .ensures) (found (c .before .before .before .before .before .args .radius) (l .k) (l .y) (s .result) (l .inv .1) (s .ensures .0) (s .ensures .1))
+    let l = c .before .before in
+    rw (c .next-height .ensures) (found (R l) (k l) (l .loop .y) (l .loop .inv .1 .0) (l .loop .inv .1 .1))
 
 loop-holds : tie.Need-loop-holds Inv-loop μ-loop
-loop-holds c = (
-  omega arith,
-  omega arith,
-  height-top (c .before .args .radius) 0,
-  refl,
-  λ j h. absurd (omega arith),
-  λ j h. c .before .pre .2 j,
-)
+loop-holds c =
+    let R = c .before .args .radius in
+    (omega arith, (omega arith, height-top R (R - R), refl, λ j h. absurd (omega arith), λ j h. c .before .pre .2 j))
 
 mul-m : tie.Need-mul-m Inv-loop μ-loop
-mul-m c = omega (arith, square-le {a = c .before .before .before .args .radius} {b = radiusMost} (omega arith))
+mul-m c = omega (arith, square-le {a = R (c .before)} {b = radiusMost} (omega arith))
 
 mul-m-2 : tie.Need-mul-m-2 Inv-loop μ-loop
-mul-m-2 c = omega (arith, square-le {a = c .before .loop .k} {b = radiusMost} (omega arith))
+mul-m-2 c = omega (arith, square-le {a = k (c .before)} {b = radiusMost} (omega arith))
 
 sub-m : tie.Need-sub-m Inv-loop μ-loop
-sub-m c = square-le (omega arith)
+sub-m c = square-le {a = k (c .before)} {b = R (c .before)} (omega arith)
 
 mul-m-3 : tie.Need-mul-m-3 Inv-loop μ-loop
-mul-m-3 c = omega (arith, square-le {a = c .before .before .before .args .radius} {b = radiusMost} (omega arith))
+mul-m-3 c = omega (arith, square-le {a = R (c .before)} {b = radiusMost} (omega arith))
 
 cast-hs : tie.Need-cast-hs Inv-loop μ-loop
 cast-hs c = omega (arith, here c .most)
@@ -79,34 +85,36 @@ sub-step c = here c .most
 
 loop-again : tie.Need-loop-again Inv-loop μ-loop
 loop-again c =
-    let r = c .before .before .before .before .before .args .radius in
-    let l = c .before .before .before .loop in
-    let y = c .half-root .result in (
-      omega arith,
+    let at = c .before .before in
+    let l = at .loop in
+    let y = c .next-height .result in
+    let next : k at + 1 ≡ R at - (l .left - 1) = omega arith in
+    let filled : Filled (now (at .before .before .args .hs)) (R at) (k at + 1) (set (l .hs) (k at) y) y = (
       omega (arith, here c .most),
       here c .above,
-      length-set (l .hs) (l .k) y ∙ l .inv .3,
-      below-more (λ (j : ℕ). getD (set (l .hs) (l .k) y) j 0 ≡ heightOf r j) (l .k)
-          (λ j h. getD-set-other (l .hs) (l .k) j y 0 (λ q. omega arith) ∙ l .inv .4 j h)
-          (getD-set-same (l .hs) (l .k) y 0 (omega arith) ∙ here c .is),
-      λ j h. getD-set-other (l .hs) (l .k) j y 0 (λ q. omega arith) ∙ l .inv .5 j (omega arith),
-    )
+      length-set (l .hs) (k at) y ∙ l .inv .1 .2,
+      below-more (λ (j : ℕ). getD (set (l .hs) (k at) y) j 0 ≡ heightOf (R at) j) (k at)
+          (λ j h. getD-set-other (l .hs) (k at) j y 0 (λ q. omega arith) ∙ l .inv .1 .3 j h)
+          (getD-set-same (l .hs) (k at) y 0 (omega arith) ∙ here c .is),
+      λ j h. getD-set-other (l .hs) (k at) j y 0 (λ q. omega arith) ∙ l .inv .1 .4 j (omega arith),
+    ) in
+    (omega arith, subst (λ (n : ℕ). Filled (now (at .before .before .args .hs)) (R at) n (set (l .hs) (k at) y) y) next filled)
 
 same-length : tie.Need-same-length Inv-loop μ-loop
-same-length c = c .before .loop .inv .3
+same-length c = c .before .loop .inv .1 .2
 
 returns : tie.Need-returns Inv-loop μ-loop
 returns c =
-    let r = c .before .before .before .args .radius in
+    let r = R (c .before) in
     let l = c .before .loop in
     record {
-      each = λ k.
-          ⊎-elim (λ h. l .inv .4 k (omega arith)) (λ h. l .inv .5 k (omega arith) ∙ sym (height-beyond r k h)) (lt-or-le k r);
-      size = l .inv .3;
+      each = λ j.
+          ⊎-elim (λ h. l .inv .1 .3 j (omega arith)) (λ h. l .inv .1 .4 j (omega arith) ∙ sym (height-beyond r j h)) (lt-or-le j r);
+      size = l .inv .1 .2;
     }
 
 pub heights-spec : {M : Type 1} → statement M
 heights-spec =
     tie.close
-    (tie.spec Inv-loop μ-loop (λ c. search needs) loop-holds mul-m mul-m-2 sub-m mul-m-3 (λ c. search needs) (λ c. search needs) cast-hs
+    (tie.spec Inv-loop μ-loop (λ c. search needs) loop-holds (λ c. search needs) mul-m mul-m-2 sub-m mul-m-3 (λ c κs. search needs) cast-hs
     (λ c. search needs) (λ c. search needs) sub-step (λ c. search needs) (λ c. search needs) loop-again same-length returns)

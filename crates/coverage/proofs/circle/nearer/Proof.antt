@@ -4,6 +4,7 @@ use native.Mathlib.Nat.{div-lt-iff-lt-mul}
 use native.Mathlib.Omega.{arith}
 use borrow.Author.Needs.{needs}
 use Rattle.numbers.proofs.Order.{square-le}
+use Rattle.coverage.specs.inner.Circle.{heightMost}
 use Rattle.coverage.proofs.circle.nearer.Statement.{statement}
 use Rattle.coverage.proofs.circle.nearer.Tie as tie
 
@@ -13,10 +14,10 @@ small t x h =
     omega arith
 
 mul-less : tie.Need-mul-less
-mul-less c = omega (arith, square-le {a = c .args .t} {b = 65536} (omega arith))
+mul-less c = omega (arith, square-le {a = c .args .t} {b = heightMost} (omega arith))
 
 add-less : tie.Need-add-less
-add-less c = omega (arith, square-le {a = c .args .t} {b = 65536} (omega arith))
+add-less c = omega (arith, square-le {a = c .args .t} {b = heightMost} (omega arith))
 
 sub-result : tie.Need-sub-result
 sub-result c = small (c .before .args .t) (c .less .result) (omega arith)

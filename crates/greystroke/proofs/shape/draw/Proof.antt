@@ -1,15 +1,15 @@
 -- Each kind is drawn by the library as the shape that is taken, and a number of no kind is refused.
 use mathlib.Core.Path.{_≡_, refl}
 use mathlib.Core.List.{List}
-use mathlib.Core.Logic.{⊎-elim}
+use mathlib.Core.Logic.{_⊎_, inl, inr, ⊎-elim}
 use Prim.Native.Nat.{ℕ, _≤_, _<_}
 use native.Mathlib.Omega.{arith}
 use lib.Dec.{eqb}
 use lib.IntN.{ℤ}
 use borrow.Author.Tests.{ne-eqb}
 use Rattle.numbers.proofs.Order.{lt-or-le}
-use Rattle.shapes.specs.declared.Shape.the-variants.{Line as line}
-use Rattle.greystroke.specs.Taken.{lineOf, takenBy, takenOf}
+use Rattle.shapes.specs.declared.Shape.the-variants.{Line as line, Disc as disc, Ring as ring}
+use Rattle.greystroke.specs.Taken.{lineOf, discOf, ringOf, takenBy, takenOf}
 use Rattle.greystroke.specs.Answers.{shapeDrawn, pageDrawn}
 use Rattle.greystroke.specs.declared.taken.Taken.the-variants.{Known, Unknown}
 use borrow.Author.Needs.{needs}
@@ -21,8 +21,18 @@ line-taken : (k : ℕ) (ns : List ℤ) → 3 ≤ k → k < 5 → takenBy k ns �
 line-taken k ns h j =
     ⊎-elim (λ g. let e : k ≡ 3 = omega arith in rw e) (λ g. let e : k ≡ 4 = omega arith in rw e) (lt-or-le k 4)
 
-none-taken : (k : ℕ) (ns : List ℤ) → (k ≡ 3 → ⊥) → (k ≡ 4 → ⊥) → (k ≡ 5 → ⊥) → (k ≡ 6 → ⊥) → takenBy k ns ≡ Unknown
-none-taken k ns a b c d = simp (ne-eqb k 3 a, ne-eqb k 4 b, ne-eqb k 5 c, ne-eqb k 6 d)
+-- 5 and 8 are discs, 6 and 9 rings
+disc-taken : (k : ℕ) (ns : List ℤ) → (k ≡ 5) ⊎ (k ≡ 8) → takenBy k ns ≡ Known (disc (discOf (eqb k 8) ns))
+disc-taken k ns (inl e) = rw e
+disc-taken k ns (inr e) = rw e
+
+ring-taken : (k : ℕ) (ns : List ℤ) → (k ≡ 6) ⊎ (k ≡ 9) → takenBy k ns ≡ Known (ring (ringOf (eqb k 9) ns))
+ring-taken k ns (inl e) = rw e
+ring-taken k ns (inr e) = rw e
+
+none-taken : (k : ℕ) (ns : List ℤ) → (k ≡ 3 → ⊥) → (k ≡ 4 → ⊥) → ((k ≡ 5) ⊎ (k ≡ 8) → ⊥) → ((k ≡ 6) ⊎ (k ≡ 9) → ⊥) → takenBy k ns ≡ Unknown
+none-taken k ns a b c d =
+    simp (ne-eqb k 3 a, ne-eqb k 4 b, ne-eqb k 5 (λ e. c (inl e)), ne-eqb k 6 (λ e. d (inl e)), ne-eqb k 8 (λ e. c (inr e)), ne-eqb k 9 (λ e. d (inr e)))
 
 -- a disc
 returns : tie.Need-returns
@@ -33,7 +43,8 @@ returns c =
     let kind = taken .before .before in
     let clip = kind .before .before in
     let size = clip .before in
-    rw (kind .match .keys1)
+    let given = size .before .before .before .before .args .shape in
+    rw (disc-taken (given .kind) (given .numbers) (kind .match .keys1))
     (rw (taken .disc-of .ensures, clip .clip-of .ensures, size .unsigned2 .ensures, size .before .unsigned .ensures) at (call .draw-disc .ensures))
 
 -- a ring
@@ -45,7 +56,8 @@ returns-2 c =
     let kind = taken .before .before in
     let clip = kind .before .before in
     let size = clip .before in
-    rw (kind .match .keys2)
+    let given = size .before .before .before .before .args .shape in
+    rw (ring-taken (given .kind) (given .numbers) (kind .match .keys2))
     (rw (taken .ring-of .ensures, clip .clip-of .ensures, size .unsigned2 .ensures, size .before .unsigned .ensures) at (call .draw-ring .ensures))
 
 -- a line
@@ -67,7 +79,7 @@ unfolding takenOf shapeDrawn pageDrawn
 returns-4 c =
     let given = c .before .before .before .before .before .before .before .before .args .shape in
     rw (none-taken (given .kind) (given .numbers) (λ e. omega (arith, c .if1 .taken)) (λ e. omega (arith, c .if1 .taken))
-    (λ e. omega (arith, c .if1 .taken)) (λ e. omega (arith, c .if1 .taken)))
+    (c .before .match .rest .0 .1) (c .before .match .rest .1))
     (refl, refl)
 
 returns-5 : tie.Need-returns-5

@@ -29,17 +29,28 @@ returns-4 c = rw (c .before .match .keys4) (ap (λ (x : Ring). Known (ring x)) (
 
 returns-5 : tie.Need-returns-5
 unfolding takenOf
-returns-5 c =
+returns-5 c = rw (c .before .match .keys5) (ap (λ (x : Disc). Known (disc x)) (c .disc-of2 .ensures))
+
+returns-6 : tie.Need-returns-6
+unfolding takenOf
+returns-6 c = rw (c .before .match .keys6) (ap (λ (x : Ring). Known (ring x)) (c .ring-of2 .ensures))
+
+returns-7 : tie.Need-returns-7
+unfolding takenOf
+returns-7 c =
     let r = c .match .rest in
-    simp (ne-eqb _ _ (r .1), ne-eqb _ _ (r .0 .1), ne-eqb _ _ (r .0 .0 .1), ne-eqb _ _ (r .0 .0 .0 .1))
+    simp (ne-eqb _ _ (r .1), ne-eqb _ _ (r .0 .1), ne-eqb _ _ (r .0 .0 .1), ne-eqb _ _ (r .0 .0 .0 .1), ne-eqb _ _ (r .0 .0 .0 .0 .1), ne-eqb _ _ (r .0 .0 .0 .0 .0 .1))
 
 pub taken-of-spec : {M : Type 1} → statement M
 taken-of-spec =
     tie.close
     (tie.spec
-    (λ c κs. search needs) (λ c κs. search needs) (λ c κs. search needs) (λ c κs. search needs)
+    (λ c κs. search needs) (λ c κs. search needs) (λ c κs. search needs) (λ c κs. search needs) (λ c κs. search needs)
+    (λ c κs. search needs)
     returns
     returns-2
     returns-3
     returns-4
-    returns-5)
+    returns-5
+    returns-6
+    returns-7)

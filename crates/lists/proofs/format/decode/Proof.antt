@@ -19,11 +19,12 @@ either-end : (b : Bool) → cond b end end ≡ end
 either-end true = refl
 either-end false = refl
 
-other-kind : tie.Need-returns-8
+other-kind : tie.Need-returns-10
 unfolding decoded
 other-kind c =
     let r = c .match .rest in
-    simp (ne-eqb _ _ (r .1), ne-eqb _ _ (r .0 .1), ne-eqb _ _ (r .0 .0 .1), ne-eqb _ _ (r .0 .0 .0 .1), ne-eqb _ _ (r .0 .0 .0 .0 .1), ne-eqb _ _ (r .0 .0 .0 .0 .0 .1), ne-eqb _ _ (r .0 .0 .0 .0 .0 .0 .1), either-end)
+    let q = r .0 .0 .0 .0 .0 in
+    simp (ne-eqb _ _ (r .1), ne-eqb _ _ (r .0 .1), ne-eqb _ _ (r .0 .0 .1), ne-eqb _ _ (r .0 .0 .0 .1), ne-eqb _ _ (r .0 .0 .0 .0 .1), ne-eqb _ _ (q .1), ne-eqb _ _ (q .0 .1), ne-eqb _ _ (q .0 .0 .1), ne-eqb _ _ (q .0 .0 .0 .1), either-end)
 
 pub decode-spec : {M : Type 1} → statement M
 unfolding kindSize decoded
@@ -38,6 +39,8 @@ decode-spec =
     (λ c κs. rw (c .match .keys5) at (c .before .before .before .pre .fits))
     (λ c κs. rw (c .match .keys6) at (c .before .before .before .pre .fits))
     (λ c. rw (c .before .match .keys7) at (c .before .before .before .before .pre .fits))
+    (λ c κs. rw (c .match .keys8) at (c .before .before .before .pre .fits))
+    (λ c κs. rw (c .match .keys9) at (c .before .before .before .pre .fits))
     (λ c. rw (c .before .match .keys1) (ap (λ (x : Clip). setting (clip x)) (c .clip-at .ensures)))
     (λ c. rw (c .before .match .keys2))
     (λ c. rw (c .before .match .keys3) (ap (λ (x : Line). shape (line x)) (c .line-at .ensures)))
@@ -45,4 +48,6 @@ decode-spec =
     (λ c. rw (c .before .match .keys5) (ap (λ (x : Disc). shape (disc x)) (c .disc-at .ensures)))
     (λ c. rw (c .before .match .keys6) (ap (λ (x : Ring). shape (ring x)) (c .ring-at .ensures)))
     (λ c. rw (c .before .match .keys7))
+    (λ c. rw (c .before .match .keys8) (ap (λ (x : Disc). shape (disc x)) (c .big-disc-at .ensures)))
+    (λ c. rw (c .before .match .keys9) (ap (λ (x : Ring). shape (ring x)) (c .big-ring-at .ensures)))
     other-kind)

@@ -4,12 +4,12 @@ use Rattle.lists.specs.Format.{kindSize}
 use Rattle.lists.proofs.format.kind_size.Statement.{statement}
 use Rattle.lists.proofs.format.kind_size.Tie as tie
 
-other-kind : tie.Need-returns-9
+other-kind : tie.Need-returns-11
 unfolding kindSize
 other-kind c =
     let r = c .match .rest in
-    let q = r .0 .0 .0 .0 in
-    simp (ne-eqb _ _ (r .1), ne-eqb _ _ (r .0 .1), ne-eqb _ _ (r .0 .0 .1), ne-eqb _ _ (r .0 .0 .0 .1), ne-eqb _ _ (q .1), ne-eqb _ _ (q .0 .1), ne-eqb _ _ (q .0 .0 .1), ne-eqb _ _ (q .0 .0 .0 .1))
+    let q = r .0 .0 .0 .0 .0 in
+    simp (ne-eqb _ _ (r .1), ne-eqb _ _ (r .0 .1), ne-eqb _ _ (r .0 .0 .1), ne-eqb _ _ (r .0 .0 .0 .1), ne-eqb _ _ (r .0 .0 .0 .0 .1), ne-eqb _ _ (q .1), ne-eqb _ _ (q .0 .1), ne-eqb _ _ (q .0 .0 .1), ne-eqb _ _ (q .0 .0 .0 .1), ne-eqb _ _ (q .0 .0 .0 .0 .1))
 
 pub kind-size-spec : {M : Type 1} → statement M
 unfolding kindSize
@@ -24,4 +24,6 @@ kind-size-spec =
     (λ c. rw (c .match .keys6))
     (λ c. rw (c .match .keys7))
     (λ c. rw (c .match .keys8))
+    (λ c. rw (c .match .keys9))
+    (λ c. rw (c .match .keys10))
     other-kind)

@@ -1,4 +1,4 @@
--- Each arm holds the bytes of its shape, whose radius and width are one byte each as those of the whole are.
+-- Each arm holds the bytes of its shape, whose radius and width fit as those of the whole do.
 use borrow.Author.Needs.{needs}
 use Rattle.lists.proofs.format.shape_bytes.Statement.{statement}
 use Rattle.lists.proofs.format.shape_bytes.Tie as tie

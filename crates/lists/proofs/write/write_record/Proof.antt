@@ -11,7 +11,7 @@ use Rattle.shapes.specs.declared.Basis.{Basis}
 use Rattle.lists.specs.Format.{recordBytes}
 use Rattle.lists.specs.Write.{recordWriteRefusal, writtenAs}
 use Rattle.lists.proofs.Bytes.{record-most, put-padded}
-use Rattle.lists.proofs.Refusals.{one-byte}
+use Rattle.lists.proofs.Refusals.{record-fits}
 use Rattle.lists.proofs.Writes.{record-refused, record-done, Writable, writable}
 use Rattle.lists.proofs.write.write_record.Statement.{statement}
 use Rattle.lists.proofs.write.write_record.Tie as tie
@@ -39,7 +39,7 @@ module _ (c : tie.Else1) where
   fit = writable _ _ (held start) _ none
 
 record-bytes-requires : tie.Need-record-bytes-requires
-record-bytes-requires c κs = one-byte _ _ (fit (c .before .before) .lawful)
+record-bytes-requires c κs = record-fits _ _ (fit (c .before .before) .lawful)
 
 put-requires : tie.Need-put-requires
 put-requires c κs =

@@ -2,8 +2,8 @@
 use native.Mathlib.Omega.{arith}
 use Rattle.circles.proofs.Box.{boxed-drawn, boxed-empty, boxed-placed}
 use borrow.Author.Needs.{needs}
-use Rattle.circles.proofs.draw_between.Statement.{statement}
-use Rattle.circles.proofs.draw_between.Tie as tie
+use Rattle.circles.proofs.draw_lesser.Statement.{statement}
+use Rattle.circles.proofs.draw_lesser.Tie as tie
 
 -- the states behind the box, and at entry
 abbrev boxed : tie.Else2 → tie.After-box-of
@@ -38,8 +38,8 @@ returns-3 c =
     let s = start box in
     boxed-drawn (s .args .view) (s .args .ring) (s .pre .1) _ (rw (box .box-of .ensures) at (c .before .before .draw-small .ensures))
 
-draw-large-requires : tie.Need-draw-large-requires
-draw-large-requires c κs =
+draw-middle-requires : tie.Need-draw-middle-requires
+draw-middle-requires c κs =
     let box = boxed (c .before .before .before) in
     let s = start box in
     (rw (box .box-of .ensures) (boxed-placed (s .args .view) (s .args .ring) (s .pre .1) (s .pre .0) (s .pre .2) (s .pre .3)), s .pre .4, s .pre .5)
@@ -48,10 +48,10 @@ returns-4 : tie.Need-returns-4
 returns-4 c =
     let box = boxed (c .before .before .before .before .before .before) in
     let s = start box in
-    boxed-drawn (s .args .view) (s .args .ring) (s .pre .1) _ (rw (box .box-of .ensures) at (c .before .before .draw-large .ensures))
+    boxed-drawn (s .args .view) (s .args .ring) (s .pre .1) _ (rw (box .box-of .ensures) at (c .before .before .draw-middle .ensures))
 
-pub draw-between-spec : {M : Type 1} → statement M
-draw-between-spec =
+pub draw-lesser-spec : {M : Type 1} → statement M
+draw-lesser-spec =
     tie.close
     (tie.spec
     (λ c κs. search needs)
@@ -60,6 +60,6 @@ draw-between-spec =
     draw-small-requires
     (λ c. search needs)
     returns-3
-    draw-large-requires
+    draw-middle-requires
     (λ c. search needs)
     returns-4)
