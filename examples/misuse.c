@@ -8,7 +8,7 @@
 #include <stdio.h>
 #include <string.h>
 
-enum { SIDE = 8, LEVEL = 200, PLAYER = 5, PLAYERS = 8, BYTE = 170, ROOM = 80, LIST_MOST = 65536 };
+enum { SIDE = 8, LEVEL = 200, PLAYER = 5, PLAYERS = 8, BYTE = 170, ROOM = 96, LIST_MOST = 65536 };
 
 #define COUNT(array) (sizeof(array) / sizeof *(array))
 
@@ -90,14 +90,20 @@ static bool is_line(struct greystroke_shape shape) {
         || shape.kind == GREYSTROKE_KIND_APPROXIMATE_LINE;
 }
 
-/* Version 1 has neither a big disc nor a big ring. */
-static bool is_big(struct greystroke_shape shape) {
-    return shape.kind == GREYSTROKE_KIND_BIG_DISC || shape.kind == GREYSTROKE_KIND_BIG_RING;
+/* Version 1 has neither a big disc nor a big ring, nor a triangle. */
+static bool is_newer(struct greystroke_shape shape) {
+    return shape.kind == GREYSTROKE_KIND_BIG_DISC || shape.kind == GREYSTROKE_KIND_BIG_RING
+        || shape.kind == GREYSTROKE_KIND_TRIANGLE;
+}
+
+/* How many of its numbers are coordinates. */
+static size_t coordinates(struct greystroke_shape shape) {
+    return is_line(shape) ? 4 : shape.kind == GREYSTROKE_KIND_TRIANGLE ? 6 : 2;
 }
 
 /* A shape in the calls that write it, with room and without. */
 static void try_written(uint32_t number, struct greystroke_shape shape) {
-    uint32_t in_version_1 = is_big(shape) ? GREYSTROKE_UNKNOWN_KIND : number;
+    uint32_t in_version_1 = is_newer(shape) ? GREYSTROKE_UNKNOWN_KIND : number;
     WRITE_REFUSED(in_version_1, 10, basis_1,
         greystroke_write_shape(room, sizeof room, 10, basis_1, shape));
     WRITE_REFUSED(number, 10, basis_2,
@@ -121,6 +127,7 @@ static const struct greystroke_shape lawful[] = {
     {GREYSTROKE_KIND_RING, {4, 4, 3, 2, 0, 0}},
     {GREYSTROKE_KIND_BIG_DISC, {4, 4, 300, 0, 0, 0}},
     {GREYSTROKE_KIND_BIG_RING, {4, 4, 1023, 258, 0, 0}},
+    {GREYSTROKE_KIND_TRIANGLE, {1, 1, 5, 3, 2, 7}},
 };
 
 /* Cut to 16 bits, each but the first four would be in range. */
@@ -170,8 +177,32 @@ static void try_measures(void) {
     }
 }
 
+/* Three of the six orders of some corners. */
+static void try_corners(uint32_t number, const int32_t corners[6]) {
+    const int32_t *c = corners;
+    try_shape(number, greystroke_triangle(c[0], c[1], c[2], c[3], c[4], c[5]));
+    try_shape(number, greystroke_triangle(c[4], c[5], c[2], c[3], c[0], c[1]));
+    try_shape(number, greystroke_triangle(c[2], c[3], c[0], c[1], c[4], c[5]));
+}
+
+static void try_triangles(void) {
+    static const int32_t too_wide_or_high[][6] = {
+        {0, 0, 128, 0, 0, 1}, {0, 0, 1, 0, 0, 128}, {-64, 0, 64, 1, 0, 5},
+        {0, 0, 64, 64, 128, 128}, {-4096, -4096, 4095, 4095, 0, 1}, {0, -4096, 0, 4095, 0, 0}};
+    static const int32_t straight[][6] = {
+        {1, 1, 1, 1, 1, 1}, {0, 0, 127, 127, 1, 1}, {3, -9, 3, 9, 3, 0}, {0, 5, 5, 5, 2, 5},
+        {0, 0, 3, 6, 2, 4}, {4095, -4096, 3968, -3969, 4000, -4001}, {2, 3, 7, 1, 2, 3}};
+    for (size_t k = 0; k < COUNT(too_wide_or_high); k++)
+        try_corners(GREYSTROKE_TRIANGLE_SIZE, too_wide_or_high[k]);
+    for (size_t k = 0; k < COUNT(straight); k++)
+        try_corners(GREYSTROKE_STRAIGHT_CORNERS, straight[k]);
+    /* before either */
+    try_shape(GREYSTROKE_COORDINATE, greystroke_triangle(0, 0, 65536, 0, 131072, 0));
+    try_shape(GREYSTROKE_COORDINATE, greystroke_triangle(0, 0, 0, 4096, 0, 0));
+}
+
 static void try_shapes(void) {
-    static const uint32_t no_shape[] = {0, 1, 2, 7, 10, 255, 256 + 3, 65536 + 3, UINT32_MAX};
+    static const uint32_t no_shape[] = {0, 1, 2, 7, 11, 255, 256 + 10, 256 + 3, 65536 + 3, UINT32_MAX};
     for (size_t i = 0; i < COUNT(no_shape); i++) {
         struct greystroke_shape shape = {no_shape[i], {1, 1, 5, 3, 0, 0}};
         try_shape(GREYSTROKE_UNKNOWN_KIND, shape);
@@ -183,7 +214,7 @@ static void try_shapes(void) {
             greystroke_write_shape(NULL, 0, 0, none, shape));
     }
     for (size_t s = 0; s < COUNT(lawful); s++)
-        for (size_t i = 0; i < (s < 2 ? 4 : 2); i++)
+        for (size_t i = 0; i < coordinates(lawful[s]); i++)
             for (size_t k = 0; k < COUNT(no_coordinate); k++) {
                 struct greystroke_shape shape = lawful[s];
                 shape.numbers[i] = no_coordinate[k];
@@ -377,7 +408,8 @@ enum {
     DISC_RECORD = 5,
     RING_RECORD = 6,
     BIG_DISC_RECORD = 7,
-    BIG_RING_RECORD = 8
+    BIG_RING_RECORD = 8,
+    TRIANGLE_RECORD = 9
 };
 
 static uint8_t list[ROOM];
@@ -499,7 +531,7 @@ static void try_bytes(void) {
     for (size_t i = 5; i < 9; i++)
         try_byte(GREYSTROKE_PAGE_SIZE, 0, i, i % 2 == 1 ? 0 : 5);
     for (size_t r = 0; r + 1 < records; r++)
-        try_byte(GREYSTROKE_UNKNOWN_KIND, starts[r], starts[r], 10);
+        try_byte(GREYSTROKE_UNKNOWN_KIND, starts[r], starts[r], 11);
     /* in version 1 the player is the first record that is refused */
     try_byte(GREYSTROKE_UNKNOWN_KIND, starts[PLAYER_RECORD], 3, 1);
     try_byte(GREYSTROKE_PLAYER, starts[PLAYER_RECORD], starts[PLAYER_RECORD] + 1, PLAYERS);
@@ -512,13 +544,21 @@ static void try_bytes(void) {
     try_byte(GREYSTROKE_RADIUS_TOO_LARGE, starts[BIG_DISC_RECORD], starts[BIG_DISC_RECORD] + 6, 4);
     try_byte(GREYSTROKE_RADIUS_TOO_LARGE, starts[BIG_RING_RECORD], starts[BIG_RING_RECORD] + 6, 4);
     try_byte(GREYSTROKE_RING_WIDTH, starts[BIG_RING_RECORD], starts[BIG_RING_RECORD] + 8, 4);
+    for (size_t i = 1; i < 13; i += 2) {
+        size_t at = starts[TRIANGLE_RECORD] + i;
+        try_byte(GREYSTROKE_COORDINATE, starts[TRIANGLE_RECORD], at + 1, 128);
+        try_byte(GREYSTROKE_TRIANGLE_SIZE, starts[TRIANGLE_RECORD], at, 200);
+    }
+    /* (13, 7) is on the line through the other two corners */
+    try_byte(GREYSTROKE_STRAIGHT_CORNERS, starts[TRIANGLE_RECORD], starts[TRIANGLE_RECORD] + 9, 13);
 }
 
 static void try_records(void) {
     static const struct greystroke_basis narrower = {2, SIDE - 1, SIDE};
-    static const uint8_t unknown[] = {10, 0, 0, 0, 0, 0, 0, 0, 0, 0};
+    static const uint8_t unknown[] = {11, 0, 0, 0, 0, 0, 0, 0, 0, 0};
     static const uint8_t player[] = {GREYSTROKE_KIND_PLAYER, PLAYERS};
     static const uint8_t no_big_disc[] = {GREYSTROKE_KIND_BIG_DISC, 0, 0, 0, 0, 0, 0};
+    static const uint8_t no_triangle[13] = {GREYSTROKE_KIND_TRIANGLE};
     REFUSED(read, GREYSTROKE_CUT_SHORT, 0, greystroke_read_record(NULL, 0, basis_2));
     for (size_t r = 0; r + 1 < records; r++)
         for (size_t n = 0; n < starts[r + 1] - starts[r]; n++)
@@ -534,6 +574,11 @@ static void try_records(void) {
     for (size_t n = 1; n <= sizeof no_big_disc; n++)
         REFUSED(read, GREYSTROKE_UNKNOWN_KIND, 0,
             greystroke_read_record(no_big_disc, n, basis_1));
+    REFUSED(read, GREYSTROKE_STRAIGHT_CORNERS, 0,
+        greystroke_read_record(no_triangle, sizeof no_triangle, basis_2));
+    for (size_t n = 1; n <= sizeof no_triangle; n++)
+        REFUSED(read, GREYSTROKE_UNKNOWN_KIND, 0,
+            greystroke_read_record(no_triangle, n, basis_1));
     REFUSED(read, GREYSTROKE_CLIP, 0,
         greystroke_read_record(list + starts[0], sizeof list - starts[0], narrower));
 }
@@ -571,6 +616,17 @@ static void expect_whole(struct greystroke_shape shape) {
     }
 }
 
+/* Three corners of a pixel have half of it between them, in any order; any n and d of that quotient
+ * will do. */
+static void expect_half(int32_t x0, int32_t y0, int32_t x1, int32_t y1, int32_t x2, int32_t y2) {
+    struct greystroke_coverage_answer answer =
+        greystroke_coverage(greystroke_triangle(x0, y0, x1, y1, x2, y2), 4, 4);
+    if (answer.refusal != 0 || answer.place != 0 || answer.d == 0 || 2 * answer.n != answer.d) {
+        wrong = true;
+        printf("a triangle does not cover half of the pixel\n");
+    }
+}
+
 /* What is lawful is taken. */
 static void try_lawful(void) {
     static const struct greystroke_clip corner = {6, 6, SIDE, SIDE};
@@ -586,6 +642,9 @@ static void try_lawful(void) {
         expect_whole(greystroke_ring(4, 4, radius, radius));
         expect_whole(greystroke_big_ring(4, 4, radius, radius));
     }
+    expect_half(4, 4, 5, 4, 4, 5);
+    expect_half(5, 4, 4, 5, 4, 4);
+    expect_half(4, 5, 5, 4, 4, 4);
     expect_read(PLAYER_RECORD, GREYSTROKE_KIND_PLAYER, player);
     for (size_t s = 0; s < COUNT(lawful); s++)
         expect_read(FIRST_SHAPE + s, lawful[s].kind, lawful[s].numbers);
@@ -607,6 +666,7 @@ int main(void) {
     write_list();
     try_shapes();
     try_measures();
+    try_triangles();
     try_pixels();
     try_columns();
     try_pages();

@@ -1,4 +1,4 @@
-/* The grey stroke core: lines, discs and rings on a grey page, in C11 and C++.
+/* The grey stroke core: lines, discs, rings and triangles on a grey page, in C11 and C++.
  *
  * Every call is proved in Rattle to keep the rules; this header is not checked against it. R1.1
  * and so on are clauses of docs/RULES.md.
@@ -42,26 +42,28 @@ extern "C" {
 /* ---- refusals (R8.1) ---- */
 
 enum greystroke_refusal {
-    GREYSTROKE_WRONG_MARK = 1,       /* a list without the letters INK */
-    GREYSTROKE_WRONG_VERSION = 2,    /* a version of a list other than 1 or 2 */
-    GREYSTROKE_PAGE_SIZE = 3,        /* W or H outside 1 to 1,024 */
-    GREYSTROKE_UNKNOWN_KIND = 4,     /* a kind of record that the version does not have, or a kind
-                                        that is no shape, or no line where a line is asked for */
-    GREYSTROKE_CUT_SHORT = 5,        /* a header or a record cut short, or no end record */
-    GREYSTROKE_SURPLUS_BYTES = 6,    /* bytes behind the end record */
-    GREYSTROKE_COORDINATE = 7,       /* a coordinate outside -4,096 to 4,095 */
-    GREYSTROKE_CLIP = 8,             /* a clip out of order or off the page */
-    GREYSTROKE_EQUAL_ENDS = 9,       /* a line whose ends coincide */
-    GREYSTROKE_RADIUS = 10,          /* a radius of 0 or below */
-    GREYSTROKE_RING_WIDTH = 11,      /* a ring's width outside 1 to the radius */
-    GREYSTROKE_LIST_TOO_LONG = 12,   /* a list of more than 65,536 bytes */
-    GREYSTROKE_PAGE_TOO_SHORT = 21,  /* a page shorter than W * H bytes */
-    GREYSTROKE_NO_ROOM = 22,         /* too few bytes left in a list being written, or a place of a
-                                        record under 10 or past the list */
-    GREYSTROKE_PLAYER = 31,          /* a player above 7 */
-    GREYSTROKE_LIGHTS = 32,          /* lights not 256 in number, or not strictly rising */
-    GREYSTROKE_RADIUS_TOO_LARGE = 33 /* a radius above 1,023, or above 255 in a record of kind 5 or
-                                        6, which has one byte for it */
+    GREYSTROKE_WRONG_MARK = 1,        /* a list without the letters INK */
+    GREYSTROKE_WRONG_VERSION = 2,     /* a version of a list other than 1 or 2 */
+    GREYSTROKE_PAGE_SIZE = 3,         /* W or H outside 1 to 1,024 */
+    GREYSTROKE_UNKNOWN_KIND = 4,      /* a kind of record that the version does not have, or a kind
+                                         that is no shape, or no line where a line is asked for */
+    GREYSTROKE_CUT_SHORT = 5,         /* a header or a record cut short, or no end record */
+    GREYSTROKE_SURPLUS_BYTES = 6,     /* bytes behind the end record */
+    GREYSTROKE_COORDINATE = 7,        /* a coordinate outside -4,096 to 4,095 */
+    GREYSTROKE_CLIP = 8,              /* a clip out of order or off the page */
+    GREYSTROKE_EQUAL_ENDS = 9,        /* a line whose ends coincide */
+    GREYSTROKE_RADIUS = 10,           /* a radius of 0 or below */
+    GREYSTROKE_RING_WIDTH = 11,       /* a ring's width outside 1 to the radius */
+    GREYSTROKE_LIST_TOO_LONG = 12,    /* a list of more than 65,536 bytes */
+    GREYSTROKE_PAGE_TOO_SHORT = 21,   /* a page shorter than W * H bytes */
+    GREYSTROKE_NO_ROOM = 22,          /* too few bytes left in a list being written, or a place of a
+                                         record under 10 or past the list */
+    GREYSTROKE_PLAYER = 31,           /* a player above 7 */
+    GREYSTROKE_LIGHTS = 32,           /* lights not 256 in number, or not strictly rising */
+    GREYSTROKE_RADIUS_TOO_LARGE = 33, /* a radius above 1,023, or above 255 in a record of kind 5
+                                         or 6, which has one byte for it */
+    GREYSTROKE_TRIANGLE_SIZE = 34,    /* a triangle more than 127 wide or more than 127 high */
+    GREYSTROKE_STRAIGHT_CORNERS = 35  /* a triangle whose corners are on one straight line */
 };
 
 /* ---- shapes and clips ---- */
@@ -77,7 +79,8 @@ enum greystroke_kind {
     GREYSTROKE_KIND_RING = 6,
     GREYSTROKE_KIND_PLAYER = 7, /* a setting; this and what follows are of version 2 alone */
     GREYSTROKE_KIND_BIG_DISC = 8,
-    GREYSTROKE_KIND_BIG_RING = 9
+    GREYSTROKE_KIND_BIG_RING = 9,
+    GREYSTROKE_KIND_TRIANGLE = 10
 };
 
 /* A shape: its kind, and its numbers in the order of the record's fields. Numbers past those that
@@ -131,6 +134,14 @@ static inline struct greystroke_shape greystroke_big_ring(
     return shape;
 }
 
+/* The filled triangle between three corners (R5.4), at most 127 wide and at most 127 high. Their
+ * order does not matter to what it covers, and a record keeps it. Version 1 does not have it. */
+static inline struct greystroke_shape greystroke_triangle(
+    int32_t x0, int32_t y0, int32_t x1, int32_t y1, int32_t x2, int32_t y2) {
+    struct greystroke_shape shape = {GREYSTROKE_KIND_TRIANGLE, {x0, y0, x1, y1, x2, y2}};
+    return shape;
+}
+
 /* Keeps the pixels with x0 <= x < x1 and y0 <= y < y1; an empty clip is lawful (R1.4). */
 struct greystroke_clip {
     uint32_t x0;
@@ -162,8 +173,8 @@ struct greystroke_draw_answer {
 };
 
 /* Blends a shape at a level, in light, into the pixels of a page of w by h that the clip keeps
- * (R6.1). Refused, in this order: 4 where the kind is no shape, then 3, 21, 32, 8, 7, 9, 10, 33, 11
- * (R8.4, R8.7). */
+ * (R6.1). Refused, in this order: 4 where the kind is no shape, then 3, 21, 32, 8, 7, 9, 10, 33,
+ * 11, 34, 35 (R8.4, R8.7). */
 struct greystroke_draw_answer greystroke_draw_shape(
     uint8_t *page, size_t page_length, uint32_t w, uint32_t h, const uint16_t *lights,
     size_t lights_length, struct greystroke_clip clip, uint8_t level,
@@ -185,7 +196,8 @@ struct greystroke_column_answer {
 struct greystroke_column_answer greystroke_last_column(
     uint32_t w, uint32_t h, struct greystroke_clip clip, struct greystroke_shape shape);
 
-/* n over d, not reduced; off the shape 0 over d (R6.3). */
+/* n over d, not reduced; off the shape 0 over d (R6.3). Of a triangle only the quotient is laid
+ * down. d is from 1 to 2^47. */
 struct greystroke_coverage_answer {
     uint32_t refusal;
     size_t place;
@@ -195,14 +207,14 @@ struct greystroke_coverage_answer {
 
 /* The share of pixel (x, y) that a shape covers.
  * Refused, in this order: 4 where the kind is no shape, then 7 of the shape, 7 of the pixel, 9, 10,
- * 33, 11 (R8.4, R8.7). */
+ * 33, 11, 34, 35 (R8.4, R8.7). */
 struct greystroke_coverage_answer greystroke_coverage(
     struct greystroke_shape shape, int32_t x, int32_t y);
 
 /* ---- a whole list (R7) ---- */
 
-/* The version of list to write. Lists of version 1, which have no player and no big disc or ring,
- * are read and written as well (R7.2, R7.3). */
+/* The version of list to write. Lists of version 1, which have no player, no big disc or ring and
+ * no triangle, are read and written as well (R7.2, R7.3). */
 #define GREYSTROKE_LIST_VERSION 2
 
 /* What the records of a list are read and written against: its version, and the W and H of its
@@ -225,9 +237,9 @@ struct greystroke_list_answer {
 
 /* Draws a list on a page, in light (R7.5). The whole list is checked before a byte of the page is
  * written. Refused, in this order: 12, 5 (under 10 bytes), 1, 2, 3, 21, 32, then record by record
- * 4, 5 and those of 7, 8, 9, 10, 33, 11 and 31 that the kind has, last 6 (R8.2). The place is 0 for
- * the header, 12, 21 and 32; else the record's first byte; the list's length where the end is
- * missing; the first surplus byte for 6. */
+ * 4, 5 and those of 7, 8, 9, 10, 33, 11, 31, 34 and 35 that the kind has, last 6 (R8.2). The place
+ * is 0 for the header, 12, 21 and 32; else the record's first byte; the list's length where the end
+ * is missing; the first surplus byte for 6. */
 struct greystroke_list_answer greystroke_draw_list(
     uint8_t *page, size_t page_length, const uint16_t *lights, size_t lights_length,
     const uint8_t *list, size_t list_length);
@@ -259,8 +271,8 @@ struct greystroke_read_answer {
 };
 
 /* Reads the record at the front of some bytes, by the version, W and H of its list (R7.6).
- * Refused, in this order: 2, 3, 5 (no byte), 4, 5, then those of 7, 8, 9, 10, 33, 11 and 31 that
- * the kind has (R8.5). */
+ * Refused, in this order: 2, 3, 5 (no byte), 4, 5, then those of 7, 8, 9, 10, 33, 11, 31, 34
+ * and 35 that the kind has (R8.5). */
 struct greystroke_read_answer greystroke_read_record(
     const uint8_t *list, size_t list_length, struct greystroke_basis basis);
 
@@ -306,8 +318,8 @@ struct greystroke_write_answer greystroke_write_player(
     uint8_t player);
 
 /* Writes a shape as the kind that it has. Refused, in this order: 4 where the kind is no shape,
- * then 2, 3, 4 of kind 8 or 9 in version 1, 7, 9, 10, 33 (also of kind 5 or 6 with a radius above
- * 255), 11, 22 (R8.6). */
+ * then 2, 3, 4 of kind 8, 9 or 10 in version 1, 7, 9, 10, 33 (also of kind 5 or 6 with a radius
+ * above 255), 11, 34, 35, 22 (R8.6). */
 struct greystroke_write_answer greystroke_write_shape(
     uint8_t *list, size_t list_length, size_t place, struct greystroke_basis basis,
     struct greystroke_shape shape);

@@ -6,6 +6,7 @@ pub mod Column
 pub mod Touched
 pub mod Framing
 pub mod Pixel
+pub mod Band
 pub mod Height
 pub mod Chord
 pub mod Query

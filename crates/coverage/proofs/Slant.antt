@@ -1,34 +1,11 @@
 -- The exact rule by differences of naturals: a row has k where six squares say so.
-use mathlib.Core.Path.{_≡_, subst}
+use mathlib.Core.Path.{_≡_}
 use Prim.Native.Nat.{ℕ, _+_, _*_, _-_}
 use native.Mathlib.Omega.{arith}
-use lib.IntN.{ℤ, pos, negsuc, _+ℤ_, _-ℤ_}
-use Rattle.numbers.proofs.Integer.{Diff, plus, diff-pos, diff-add, diff-minus, diff-mul, diff-shift, diff-unique, plus-diff}
-use Rattle.coverage.specs.Edge.{P, slant}
+use lib.IntN.{ℤ, pos, _+ℤ_, _-ℤ_}
+use Rattle.numbers.proofs.Integer.{Diff, diff-pos, diff-add, diff-minus, diff-mul, diff-shift, diff-unique}
+use Rattle.edges.proofs.Slant.{sq, slant-diff}
 use Rattle.coverage.specs.Line.{leftHeight, rightHeight, F}
-
-abbrev pub sq : ℕ → ℕ
-sq n = n * n
-
-square : (z : ℤ) → Diff (P z) (sq (plus z)) 0
-unfolding P
-square (pos h) = diff-pos (h * h)
-square (negsuc h) = diff-pos 0
-
-pub P-diff : {z : ℤ} {x y : ℕ} → Diff z x y → Diff (P z) (sq (x - y)) 0
-P-diff {z} d = subst (λ (n : ℕ). Diff (P z) (sq n) 0) (plus-diff d) (square z)
-
--- an edge from height x − y to height x′ − y′
-pub slant-diff : (H : ℕ) {a b : ℤ} {x y x′ y′ : ℕ} → Diff a x y → Diff b x′ y′
-    → Diff (slant H a b) (sq (x′ - y′) + sq (x - (y + H))) (sq (x - y) + sq (x′ - (y′ + H)))
-unfolding slant
-slant-diff H {x = x} {y = y} {x′ = x′} {y′ = y′} d d′ =
-    diff-shift (sq (x′ - y′) + sq (x - (y + H))) (sq (x - y) + sq (x′ - (y′ + H)))
-    (diff-add (diff-minus (diff-minus (P-diff d′) (P-diff d)) (P-diff (less d′))) (P-diff (less d)))
-    (omega arith)
-  where
-    less : {z : ℤ} {u v : ℕ} → Diff z u v → Diff (z -ℤ pos H) u (v + H)
-    less {u = u} {v = v} e = diff-shift u (v + H) (diff-minus e (diff-pos H)) (omega arith)
 
 -- F(i, j), where j is n − d and a is x − y
 module _ (l s i : ℕ) where

@@ -13,17 +13,19 @@ use Rattle.numbers.proofs.Fraction.{within-same}
 use Rattle.shapes.specs.Limits.{shapeRefusal}
 use Rattle.shapes.specs.declared.Line.{Line}
 use Rattle.shapes.specs.declared.Shape.{Shape}
-use Rattle.shapes.specs.declared.Shape.the-variants.{Line as line, Disc as disc, Ring as ring}
+use Rattle.shapes.specs.declared.Shape.the-variants.{Line as line, Disc as disc, Ring as ring, Triangle as triangle}
 use Rattle.shapes.proofs.Limits.{LawfulLine, line-lawful}
 use Rattle.coverage.specs.Line.{exactRow, exactWhole, approxRow, approxWhole}
 use Rattle.shapes.specs.Span.{longer, shorter}
 use Rattle.coverage.specs.Frame.{columnOf, frameRow}
 use Rattle.coverage.specs.Circle.{discCover, ringCover}
-use Rattle.coverage.specs.Coverage.{inColumns, lineCover, Rule, Rules, alike, exactRule, chordRule, lineRules, rulesOf}
+use Rattle.coverage.specs.Coverage.{inColumns, lineCover, Rule, Rules, alike, exactRule, chordRule, triangleRule, lineRules, rulesOf}
 use Rattle.coverage.proofs.Closed.{whole-some}
 use Rattle.coverage.proofs.Column.{part-le, same-touched, near}
 use Rattle.shapes.proofs.Span.{some-span, span-le}
+use Rattle.sides.specs.Triangle.{first, second, third}
 use Rattle.coverage.proofs.Chord.{disc-le, ring-le}
+use Rattle.sides.proofs.Round.{cover-le, cover-pos}
 
 -- a relation that holds of 0 and 0, and in every column
 columns : (R : ℕ → ℕ → Type 0) (l : ℕ) (e a : ℕ → ℤ) → R 0 0 → ((i : ℕ) → R (natAbs (e i)) (natAbs (a i)))
@@ -103,3 +105,5 @@ unfolding rulesOf
 sound (line n) x y z = line-sound n (line-lawful n z) x y (n .exact)
 sound (disc d) x y z = alike-sound (chordRule (discCover (d .radius) (d .x) (d .y))) x y (disc-le (d .radius) (d .x) (d .y) x y) (omega arith)
 sound (ring g) x y z = alike-sound (chordRule (ringCover (g .radius) (g .width) (g .x) (g .y))) x y (ring-le (g .radius) (g .width) (g .x) (g .y) x y) (omega arith)
+sound (triangle t) x y z =
+    alike-sound (triangleRule t) x y (cover-le (first t) (second t) (third t) x y) (cover-pos (first t) (second t) (third t))

@@ -5,7 +5,7 @@ use Prim.Native.Nat.{ℕ, _+_, _-_, _*_, _<_}
 use lib.Dec.{T, leb, ltb, lit<, lit≤}
 use lib.IntN.{ℤ, pos, negsuc}
 use Rattle.shapes.specs.declared.Shape.the-variants.{Line as line, Disc as disc}
-use Rattle.coverage.specs.Edge.{P, slant}
+use Rattle.edges.specs.Edge.{P, slant}
 use Rattle.coverage.specs.Line.{leftHeight, rightHeight, F, levelRow, exactRow, exactWhole, rowOf, restOf, threeRows, excess, flatRows, crossedRows, approxRow, approxWhole}
 use Rattle.shapes.specs.Span.{spanX, spanY, longer, shorter, steep}
 use Rattle.coverage.specs.Frame.{exchanged, rising, framed, falls, mirrored, columnOf, straightRow, frameRow}

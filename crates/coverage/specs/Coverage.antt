@@ -7,12 +7,14 @@ use lib.IntN.{ℤ, pos, negsuc, natAbs}
 use Rattle.numbers.specs.Fraction.{Frac, _over_}
 use Rattle.shapes.specs.declared.Line.{Line}
 use Rattle.shapes.specs.declared.Shape.{Shape}
-use Rattle.shapes.specs.declared.Shape.the-variants.{Line as line, Disc as disc, Ring as ring}
+use Rattle.shapes.specs.declared.Shape.the-variants.{Line as line, Disc as disc, Ring as ring, Triangle as triangle}
 use Rattle.shapes.specs.Limits.{first, outside, offRange, refusalsOf, radiusMost}
 use Rattle.coverage.specs.Line.{exactRow, exactWhole, approxRow, approxWhole}
 use Rattle.shapes.specs.Span.{longer, shorter}
 use Rattle.coverage.specs.Frame.{columnOf, frameRow}
 use Rattle.coverage.specs.Circle.{discCover, ringCover}
+use Rattle.sides.specs.Triangle.{triangleCover, triangleWhole}
+use Rattle.shapes.specs.declared.Triangle.{Triangle}
 use Rattle.coverage.specs.declared.Ratio.{Ratio}
 use Rattle.coverage.specs.declared.Answer.{Answer}
 use Rattle.coverage.specs.declared.Answer.the-variants.{Covered, Refused}
@@ -57,10 +59,15 @@ lineRules false n =
 abbrev pub chordRule : (ℤ → ℤ → ℕ) → Rule
 chordRule at = record { part = at; whole = 512 }
 
+-- a triangle is drawn with its exact coverage
+abbrev pub triangleRule : Triangle → Rule
+triangleRule t = record { part = triangleCover t; whole = triangleWhole t }
+
 unfoldable pub rulesOf : Shape → Rules
 rulesOf (line n) = lineRules (n .exact) n
 rulesOf (disc d) = alike (chordRule (discCover (d .radius) (d .x) (d .y)))
 rulesOf (ring g) = alike (chordRule (ringCover (g .radius) (g .width) (g .x) (g .y)))
+rulesOf (triangle t) = alike (triangleRule t)
 
 abbrev pub exactN : Shape → ℤ → ℤ → ℕ
 exactN s = rulesOf s .exact .part

@@ -1,7 +1,7 @@
--- The coverage rules of lines and circles.
-pub mod Edge
+-- The coverage rules of lines, circles and triangles.
 pub mod Line
 pub mod Frame
+pub mod Band
 pub mod Circle
 pub mod Coverage
 pub mod inner

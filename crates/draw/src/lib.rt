@@ -10,6 +10,7 @@ use shapes::Disc;
 use shapes::Line;
 use shapes::Ring;
 use shapes::Shape;
+use shapes::Triangle;
 ghost use mathlib.Core.Path.{_≡_};
 ghost use mathlib.Core.List.{List};
 ghost use Prim.Native.Nat.{ℕ};
@@ -68,6 +69,7 @@ pub fn draw_lawful(page: &mut [u8], palette: &[u16], view: View, level: u8, shap
         Shape::Line(line) => lines::draw_line(page, palette, view, line, frame_of(line), level),
         Shape::Disc(disc) => circles::draw_disc(page, palette, view, disc, level),
         Shape::Ring(ring) => circles::draw_ring(page, palette, view, ring, level),
+        Shape::Triangle(triangle) => triangles::draw_triangle(page, palette, view, triangle, level),
     }
 }
 
@@ -172,6 +174,31 @@ pub fn draw_ring(
     Outcome::Touched(draw_uneven(page, lights, view, level, Shape::Ring(ring)))
 }
 
+pub fn draw_triangle(
+    page: &mut [u8],
+    w: u16,
+    h: u16,
+    lights: &[u16],
+    clip: Clip,
+    level: u8,
+    triangle: Triangle,
+) -> Outcome
+    ensures { λ r. ⌜ r ≡ shapeOutcome w h (length (now (page .entry))) (now (lights .entry)) clip (Shape.Triangle triangle) ⌝ }
+    ensures { λ r. ⌜ now (page .exit) ≡ shapePage w h (now (lights .entry)) clip level (Shape.Triangle triangle) (now (page .entry)) ⌝ }
+{
+    let lights_kind = kind_of(lights);
+    let own = shapes::triangle_refusal(triangle);
+    let refusal = draw_refusal(w, h, page.len(), lights_kind, clip, own);
+    if 0 < refusal {
+        return Outcome::Refused(refusal);
+    }
+    let view = view_of(w, h, clip);
+    if lights_kind.even {
+        return Outcome::Touched(triangles::draw_triangle(page, lights, view, triangle, level));
+    }
+    Outcome::Touched(draw_uneven(page, lights, view, level, Shape::Triangle(triangle)))
+}
+
 // Draws a shape of any kind.
 pub fn draw_shape(
     page: &mut [u8],
@@ -189,6 +216,7 @@ pub fn draw_shape(
         Shape::Line(line) => draw_line(page, w, h, lights, clip, level, line),
         Shape::Disc(disc) => draw_disc(page, w, h, lights, clip, level, disc),
         Shape::Ring(ring) => draw_ring(page, w, h, lights, clip, level, ring),
+        Shape::Triangle(triangle) => draw_triangle(page, w, h, lights, clip, level, triangle),
     }
 }
 

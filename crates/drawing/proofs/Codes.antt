@@ -44,7 +44,7 @@ use Rattle.drawing.proofs.Bytes.{touches-sound, byte-is}
 level-kept : (f : Settings) (s : List ℕ) → AllBytes s → f .level ≤ 255 → (k : ℕ) → 0 < kindSize k → inForce f (decoded k s) .level ≤ 255
 unfolding decoded inForce
 level-kept f s bytes byte =
-    each-kind (λ k. inForce f (decoded k s) .level ≤ 255) ((((((((((tt, byte), byte), omega (arith, bytes 1)), byte), byte), byte), byte), byte), byte), byte)
+    each-kind (λ k. inForce f (decoded k s) .level ≤ 255) (((((((((((tt, byte), byte), omega (arith, bytes 1)), byte), byte), byte), byte), byte), byte), byte), byte)
 
 drawings-lawful : (b : Basis) (f : Settings) (s : List ℕ) (rs : List Record) → Holds b s rs → AllBytes s → f .level ≤ 255 → f .player < playersIn (b .version)
     → AllLawful (b .version) (drawingsFrom f rs)

@@ -10,7 +10,7 @@ use lib.IntN.{ℤ, pos, negsuc}
 use Rattle.numbers.proofs.Order.{lt-or-le}
 use Rattle.shapes.specs.Limits.{first, offSize, outside, offRange, offPage, refusalsOf, radiusMost, basisBy, sizeRefusal, basisRefusal, clipRefusal, refusalWithin, shapeRefusal}
 use Rattle.shapes.specs.declared.Shape.{Shape}
-use Rattle.shapes.specs.declared.Shape.the-variants.{Line as line, Disc as disc, Ring as ring}
+use Rattle.shapes.specs.declared.Shape.the-variants.{Line as line, Disc as disc, Ring as ring, Triangle as triangle}
 use Rattle.shapes.proofs.Limits.{or-clear}
 use Rattle.greystroke.specs.Taken.{coordinateOf, unsignedOf, measureOf, edgeOf}
 
@@ -118,6 +118,27 @@ module _ (exact : Bool) (a b c d : ℤ) where
       let q = or-clear (outside a || outside b) (outside c) (p .0) in
       let r = or-clear (outside a) (outside b) (q .0) in
       rw (inunsigned-same a (r .0), inunsigned-same b (r .1), inunsigned-same c (q .1), inunsigned-same d (p .1)))
+
+module _ (a b c d e f : ℤ) where
+  abbrev takenTriangle : Shape
+  takenTriangle =
+      triangle (record { x0 = coordinateOf a; y0 = coordinateOf b; x1 = coordinateOf c; y1 = coordinateOf d; x2 = coordinateOf e; y2 = coordinateOf f })
+
+  abbrev givenTriangle : Shape
+  givenTriangle = triangle (record { x0 = a; y0 = b; x1 = c; y1 = d; x2 = e; y2 = f })
+
+  pub triangle-refused : shapeRefusal takenTriangle ≡ shapeRefusal givenTriangle
+  unfolding refusalWithin offRange refusalsOf
+  triangle-refused =
+      let range : offRange takenTriangle ≡ offRange givenTriangle =
+      rw (coordinate-refused a, coordinate-refused b, coordinate-refused c, coordinate-refused d, coordinate-refused e, coordinate-refused f) in
+      told 7 (offRange takenTriangle) (offRange givenTriangle) (first (refusalsOf radiusMost takenTriangle)) (first (refusalsOf radiusMost givenTriangle)) range (λ z.
+      let p = or-clear (outside a || outside b || outside c || outside d || outside e) (outside f) z in
+      let q = or-clear (outside a || outside b || outside c || outside d) (outside e) (p .0) in
+      let r = or-clear (outside a || outside b || outside c) (outside d) (q .0) in
+      let s = or-clear (outside a || outside b) (outside c) (r .0) in
+      let t = or-clear (outside a) (outside b) (s .0) in
+      rw (inunsigned-same a (t .0), inunsigned-same b (t .1), inunsigned-same c (s .1), inunsigned-same d (r .1), inunsigned-same e (q .1), inunsigned-same f (p .1)))
 
 -- in a call and in a record, whichever radius is the greatest
 module _ (m : ℕ) (h : m < 65535) (x y : ℤ) (n : ℕ) (big : Bool) where

@@ -6,7 +6,7 @@ use lib.Dec.{ltb}
 use lib.IntN.{ℤ, pos}
 use lib.ListN.{length}
 use Rattle.shapes.specs.Limits.{basisBy}
-use Rattle.shapes.specs.declared.Shape.the-variants.{Line as line, Disc as disc, Ring as ring}
+use Rattle.shapes.specs.declared.Shape.the-variants.{Line as line, Disc as disc, Ring as ring, Triangle as triangle}
 use Rattle.shapes.specs.declared.Setting.the-variants.{Clip as clip, Level as level, Player as player}
 use Rattle.shapes.specs.declared.Record.{Record}
 use Rattle.shapes.specs.declared.Record.the-variants.{End as end, Setting as setting, Shape as shape}
@@ -29,10 +29,12 @@ use Rattle.greystroke.specs.declared.writing.WriteAnswer.{WriteAnswer}
 
 -- ---- reading
 
--- a record of so many bytes, its kind and its four numbers
+-- a record of so many bytes, its kind and its six numbers, or four and zeros
+abbrev pub sixBy : ℕ → ℕ → ℤ → ℤ → ℤ → ℤ → ℤ → ℤ → ReadAnswer
+sixBy size kind a b c d e f = record { refusal = 0; place = callPlace; size = size; kind = kind; numbers = a ∷ b ∷ c ∷ d ∷ e ∷ f ∷ [] }
+
 abbrev pub numberedBy : ℕ → ℕ → ℤ → ℤ → ℤ → ℤ → ReadAnswer
-numberedBy size kind a b c d =
-    record { refusal = 0; place = callPlace; size = size; kind = kind; numbers = a ∷ b ∷ c ∷ d ∷ pos 0 ∷ pos 0 ∷ [] }
+numberedBy size kind a b c d = sixBy size kind a b c d (pos 0) (pos 0)
 
 abbrev pub numbered : Record → ℤ → ℤ → ℤ → ℤ → ReadAnswer
 numbered r = numberedBy (length (recordBytes r)) (kindOf r)
@@ -46,6 +48,8 @@ recordAnswer (setting (player p)) = numbered (setting (player p)) (pos p) (pos 0
 recordAnswer (shape (line l)) = numbered (shape (line l)) (l .x0) (l .y0) (l .x1) (l .y1)
 recordAnswer (shape (disc d)) = numbered (shape (disc d)) (d .x) (d .y) (pos (d .radius)) (pos 0)
 recordAnswer (shape (ring g)) = numbered (shape (ring g)) (g .x) (g .y) (pos (g .radius)) (pos (g .width))
+recordAnswer (shape (triangle t)) =
+    sixBy (length (recordBytes (shape (triangle t)))) (kindOf (shape (triangle t))) (t .x0) (t .y0) (t .x1) (t .y1) (t .x2) (t .y2)
 
 abbrev pub readAnswer : Reading → ReadAnswer
 readAnswer (Found r) = recordAnswer r

@@ -12,7 +12,8 @@ use Rattle.shapes.specs.declared.Clip.{Clip}
 use Rattle.shapes.specs.declared.Line.{Line}
 use Rattle.shapes.specs.declared.Disc.{Disc}
 use Rattle.shapes.specs.declared.Ring.{Ring}
-use Rattle.shapes.specs.declared.Shape.the-variants.{Line as line, Disc as disc, Ring as ring}
+use Rattle.shapes.specs.declared.Triangle.{Triangle}
+use Rattle.shapes.specs.declared.Shape.the-variants.{Line as line, Disc as disc, Ring as ring, Triangle as triangle}
 use Rattle.greystroke.specs.declared.taken.GivenBasis.{GivenBasis}
 use Rattle.greystroke.specs.declared.taken.GivenClip.{GivenClip}
 use Rattle.greystroke.specs.declared.taken.GivenShape.{GivenShape}
@@ -67,6 +68,17 @@ abbrev pub ringOf : Bool → List ℤ → Ring
 ringOf big ns =
     record { x = givenCoordinate ns 0; y = givenCoordinate ns 1; radius = givenMeasure ns 2; width = givenMeasure ns 3; big = big }
 
+abbrev pub triangleOf : List ℤ → Triangle
+triangleOf ns =
+    record {
+      x0 = givenCoordinate ns 0;
+      y0 = givenCoordinate ns 1;
+      x1 = givenCoordinate ns 2;
+      y1 = givenCoordinate ns 3;
+      x2 = givenCoordinate ns 4;
+      y2 = givenCoordinate ns 5;
+    }
+
 -- the shape of a kind by its numbers; a number of no kind is unknown
 abbrev pub takenBy : ℕ → List ℤ → Taken
 takenBy k ns =
@@ -75,7 +87,8 @@ takenBy k ns =
     (cond (eqb k 5) (Known (disc (discOf false ns)))
     (cond (eqb k 6) (Known (ring (ringOf false ns)))
     (cond (eqb k 8) (Known (disc (discOf true ns)))
-    (cond (eqb k 9) (Known (ring (ringOf true ns))) Unknown)))))
+    (cond (eqb k 9) (Known (ring (ringOf true ns)))
+    (cond (eqb k 10) (Known (triangle (triangleOf ns))) Unknown))))))
 
 unfoldable pub takenOf : GivenShape → Taken
 takenOf s = takenBy (s .kind) (s .numbers)

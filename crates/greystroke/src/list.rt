@@ -11,13 +11,14 @@ use shapes::Record;
 use shapes::Ring;
 use shapes::Setting;
 use shapes::Shape;
+use shapes::Triangle;
 ghost use mathlib.Core.Path.{_≡_};
 ghost use lib.IntN.{pos};
 ghost use Rattle.lists.specs.Format.{kindSize};
 ghost use Rattle.lists.specs.Read.{readingOf};
 ghost use Rattle.lists.specs.List.{checkedOf};
 ghost use Rattle.greystroke.specs.Taken.{basisTaken};
-ghost use Rattle.greystroke.specs.Lists.{numberedBy, recordAnswer, readAnswer, checkAnswer};
+ghost use Rattle.greystroke.specs.Lists.{sixBy, numberedBy, recordAnswer, readAnswer, checkAnswer};
 
 // A record where refusal is 0: how many bytes it has, its kind byte and its numbers in their order. What a kind has not is 0.
 #[repr(C)]
@@ -51,17 +52,24 @@ fn wide_unsigned(n: u16) -> i32
     n as i32
 }
 
-// A record of a kind by its numbers; no kind has more than four.
-fn numbered(kind: u8, a: i32, b: i32, c: i32, d: i32) -> ReadAnswer
-    ensures { λ r. ⌜ r ≡ numberedBy (kindSize kind) kind a b c d ⌝ }
+// A record of a kind by its six numbers.
+fn six_numbered(kind: u8, a: i32, b: i32, c: i32, d: i32, e: i32, f: i32) -> ReadAnswer
+    ensures { λ r. ⌜ r ≡ sixBy (kindSize kind) kind a b c d e f ⌝ }
 {
     ReadAnswer {
         refusal: 0,
         place: 0,
         size: lists::format::kind_size(kind),
         kind: kind as u32,
-        numbers: [a, b, c, d, 0, 0],
+        numbers: [a, b, c, d, e, f],
     }
+}
+
+// By four, which are all that most kinds have.
+fn numbered(kind: u8, a: i32, b: i32, c: i32, d: i32) -> ReadAnswer
+    ensures { λ r. ⌜ r ≡ numberedBy (kindSize kind) kind a b c d ⌝ }
+{
+    six_numbered(kind, a, b, c, d, 0, 0)
 }
 
 // Each kind of record in the form that C takes.
@@ -134,6 +142,20 @@ fn setting_answer(setting: Setting) -> ReadAnswer
     }
 }
 
+fn triangle_answer(triangle: Triangle) -> ReadAnswer
+    ensures { λ r. ⌜ r ≡ recordAnswer (Record.Shape (Shape.Triangle triangle)) ⌝ }
+{
+    six_numbered(
+        lists::format::TRIANGLE_KIND,
+        wide(triangle.x0),
+        wide(triangle.y0),
+        wide(triangle.x1),
+        wide(triangle.y1),
+        wide(triangle.x2),
+        wide(triangle.y2),
+    )
+}
+
 fn shape_answer(shape: Shape) -> ReadAnswer
     ensures { λ r. ⌜ r ≡ recordAnswer (Record.Shape shape) ⌝ }
 {
@@ -141,6 +163,7 @@ fn shape_answer(shape: Shape) -> ReadAnswer
         Shape::Line(line) => line_answer(line),
         Shape::Disc(disc) => disc_answer(disc),
         Shape::Ring(ring) => ring_answer(ring),
+        Shape::Triangle(triangle) => triangle_answer(triangle),
     }
 }
 

@@ -5,6 +5,7 @@ use crate::taken::clip_of;
 use crate::taken::disc_of;
 use crate::taken::line_of;
 use crate::taken::ring_of;
+use crate::taken::triangle_of;
 use crate::taken::unsigned;
 ghost use mathlib.Core.Path.{_≡_};
 ghost use lib.ListN.{length};
@@ -50,39 +51,16 @@ fn draw(
     ensures { λ r. ⌜ r ≡ shapeDrawn w h (length (now (page .entry))) (now (lights .entry)) clip (takenOf shape) ⌝ }
     ensures { λ r. ⌜ now (page .exit) ≡ pageDrawn w h (now (lights .entry)) clip level (takenOf shape) (now (page .entry)) ⌝ }
 {
-    let width = unsigned(w);
-    let height = unsigned(h);
+    let w = unsigned(w);
+    let h = unsigned(h);
     let kept = clip_of(clip);
     let kind = shape.kind;
     let numbers = shape.numbers;
     match kind {
-        3 | 4 => draw::draw_line(
-            page,
-            width,
-            height,
-            lights,
-            kept,
-            level,
-            line_of(kind == 3, numbers),
-        ),
-        5 | 8 => draw::draw_disc(
-            page,
-            width,
-            height,
-            lights,
-            kept,
-            level,
-            disc_of(kind == 8, numbers),
-        ),
-        6 | 9 => draw::draw_ring(
-            page,
-            width,
-            height,
-            lights,
-            kept,
-            level,
-            ring_of(kind == 9, numbers),
-        ),
+        3 | 4 => draw::draw_line(page, w, h, lights, kept, level, line_of(kind == 3, numbers)),
+        5 | 8 => draw::draw_disc(page, w, h, lights, kept, level, disc_of(kind == 8, numbers)),
+        6 | 9 => draw::draw_ring(page, w, h, lights, kept, level, ring_of(kind == 9, numbers)),
+        10 => draw::draw_triangle(page, w, h, lights, kept, level, triangle_of(numbers)),
         _ => draw::Outcome::Refused(4),
     }
 }

@@ -5,8 +5,9 @@ use shapes::Disc;
 use shapes::Line;
 use shapes::Ring;
 use shapes::Shape;
+use shapes::Triangle;
 ghost use mathlib.Core.Path.{_≡_};
-ghost use Rattle.greystroke.specs.Taken.{coordinateOf, unsignedOf, edgeOf, measureOf, basisTaken, basisGiven, clipOf, lineOf, discOf, ringOf, takenOf};
+ghost use Rattle.greystroke.specs.Taken.{coordinateOf, unsignedOf, edgeOf, measureOf, basisTaken, basisGiven, clipOf, lineOf, discOf, ringOf, triangleOf, takenOf};
 
 // A shape: its kind byte in a list, and its numbers in the order of the record's fields. Numbers past those that the kind has are ignored.
 #[repr(C)]
@@ -147,6 +148,19 @@ pub(crate) fn ring_of(big: bool, numbers: [i32; 6]) -> Ring
     }
 }
 
+pub(crate) fn triangle_of(numbers: [i32; 6]) -> Triangle
+    ensures { λ r. ⌜ r ≡ triangleOf numbers ⌝ }
+{
+    Triangle {
+        x0: coordinate(numbers[0]),
+        y0: coordinate(numbers[1]),
+        x1: coordinate(numbers[2]),
+        y1: coordinate(numbers[3]),
+        x2: coordinate(numbers[4]),
+        y2: coordinate(numbers[5]),
+    }
+}
+
 pub(crate) fn taken_of(given: GivenShape) -> Taken
     ensures { λ r. ⌜ r ≡ takenOf given ⌝ }
 {
@@ -159,6 +173,7 @@ pub(crate) fn taken_of(given: GivenShape) -> Taken
         6 => Taken::Known(Shape::Ring(ring_of(false, numbers))),
         8 => Taken::Known(Shape::Disc(disc_of(true, numbers))),
         9 => Taken::Known(Shape::Ring(ring_of(true, numbers))),
+        10 => Taken::Known(Shape::Triangle(triangle_of(numbers))),
         _ => Taken::Unknown,
     }
 }

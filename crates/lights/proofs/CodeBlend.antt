@@ -1,7 +1,7 @@
 -- Laws of blending codes, and of the division that it takes.
 use mathlib.Core.Path.{_≡_, _∙_, ap}
 use Prim.Native.Nat.{ℕ, _+_, _*_, _-_, _^_, _/_, _≤_, _<_}
-use native.Mathlib.Nat.{mul-le-mul, mul-le-mul-right, mul-le-mul-left, lt-of-mul-lt-mul-right, lt-mul-div-succ, div-mul-le-self, div-lt-iff-lt-mul, div-eq-of-lt-le, add-sub-of-le, sub-zero, sub-self}
+use native.Mathlib.Nat.{mul-le-mul, mul-le-mul-right, div-lt-iff-lt-mul, sub-zero, sub-self}
 use native.Mathlib.Omega.{arith}
 use Rattle.numbers.specs.Nearest.{nearest}
 use Rattle.numbers.specs.Fraction.{_over_, Within}
@@ -54,22 +54,9 @@ quotient-byte d x some h = div-lt-iff-lt-mul {k = 2 * d} {x = x} {y = 256} (omeg
 
 -- ---- a quotient by a reciprocal
 
-pub reciprocal-is : (d : ℕ) → 0 < d → Reciprocal d (2 ^ 55 / d + 1)
-reciprocal-is d h = record { least = omega (arith, lt-mul-div-succ (2 ^ 55) h); most = omega (arith, div-mul-le-self (2 ^ 55) d) }
-
 -- a dividend by a reciprocal fits 64 bits
 pub reciprocal-fits : (x d m : ℕ) → x ≤ 511 * d → d ≤ 2 ^ 30 → Reciprocal d m → x * m < 2 ^ 64
 reciprocal-fits x d m hx hd s = omega (arith, mul-le-mul-right m hx, s .most)
-
--- m·d is 2^56 and a little more: where x times that little stays under 2^56, the product gives the quotient
-pub near-quotient : (x d m : ℕ) → 0 < d → 2 ^ 56 ≤ m * d → x * (m * d - 2 ^ 56) < 2 ^ 56 → x * m / 2 ^ 56 ≡ x / d
-near-quotient x d m some hm he = div-eq-of-lt-le {k = x / d} (2 ^ 56) {m = x * m} low (lt-of-mul-lt-mul-right d high)
-  where
-    low : x / d * 2 ^ 56 ≤ x * m
-    low = omega (arith, mul-le-mul-left (x / d) hm, mul-le-mul-right m (div-mul-le-self x d))
-
-    high : x * m * d < (x / d + 1) * 2 ^ 56 * d
-    high = omega (arith, ap (λ (k : ℕ). x * k) (add-sub-of-le hm), lt-mul-div-succ x some)
 
 -- that of d up to 2^23 is near enough for every dividend
 pub near-enough : (x d m : ℕ) → x ≤ 511 * d → d ≤ 8388608 → Reciprocal d m → x * (m * (2 * d) - 2 ^ 56) < 2 ^ 56

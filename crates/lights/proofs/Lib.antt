@@ -2,6 +2,7 @@
 pub mod Nearest
 pub mod CodeBlend
 pub mod Blend
+pub mod Same
 pub mod Rising
 pub mod Codes
 pub mod LightsIn

@@ -6,10 +6,8 @@ pub mod uneven; // uneven.rt: the code nearest in light, for other lights
 
 ghost use mathlib.Core.Path.{_≡_};
 ghost use Prim.Native.Nat.{_≤_, _<_, _^_};
-ghost use Rattle.lights.specs.Blend.{blend};
 ghost use Rattle.lights.specs.Codes.{codes};
-ghost use Rattle.lights.specs.inner.Quotient.{Coverage};
-ghost use Rattle.lights.specs.inner.Palette.{lightsIn, Palette, Scaled};
+ghost use Rattle.lights.specs.inner.Palette.{Palette, Scaled};
 
 // 256 lights, each its code.
 pub fn code_lights() -> [u16; 256]
@@ -33,17 +31,5 @@ pub fn scale_of(palette: &[u16], d: u64) -> u64
         even::reciprocal(d)
     } else {
         palette::reach(palette) / d
-    }
-}
-
-// Level v over byte u at coverage n over d, by the scale of d.
-pub fn blend_byte(palette: &[u16], u: u8, v: u8, n: u64, d: u64, m: u64) -> u8
-    requires { ⌜ Palette (now palette) × Coverage n d × Scaled (now palette) d m ⌝ }
-    ensures { λ r. ⌜ r ≡ blend (lightsIn (now (palette .entry))) u v n d ⌝ }
-{
-    if palette.len() == 256 {
-        even::blend_even(palette, u, v, n, d, m)
-    } else {
-        uneven::blend_uneven(palette, u, v, n, d, m)
     }
 }

@@ -11,7 +11,7 @@ use borrow.Author.Tests.{ne-eqb, ltb-false}
 use lib.ListN.{length, replicate}
 use lib.Seq.{paste, take-append-seam}
 use Rattle.numbers.proofs.Order.{lt-or-le, AllBelow, below, cond-le}
-use Rattle.shapes.specs.declared.Shape.the-variants.{Line as line, Disc as disc, Ring as ring}
+use Rattle.shapes.specs.declared.Shape.the-variants.{Line as line, Disc as disc, Ring as ring, Triangle as triangle}
 use Rattle.shapes.specs.declared.Setting.the-variants.{Clip as clip, Level as level, Player as player}
 use Rattle.shapes.specs.declared.Record.{Record}
 use Rattle.shapes.specs.declared.Record.the-variants.{End as end, Setting as setting, Shape as shape}
@@ -43,40 +43,41 @@ record-size (shape (ring g)) = of-ring (g .big)
     of-ring : (big : Bool) → kindSize (cond big 9 6) ≡ length (cond big 9 6 ∷ coordinates (g .x ∷ g .y ∷ []) ++ measures big (g .radius ∷ g .width ∷ []))
     of-ring true = refl
     of-ring false = refl
+record-size (shape (triangle t)) = refl
 
--- kinds above 9 are unknown
-unknown-kind : (k : ℕ) → 9 < k → kindSize k ≡ 0
+-- kinds above 10 are unknown
+unknown-kind : (k : ℕ) → 10 < k → kindSize k ≡ 0
 unfolding kindSize
 unknown-kind k h =
-    let other : (j : ℕ) → j ≤ 9 → eqb k j ≡ false = λ j i. ne-eqb k j (λ e. omega arith) in
-    simp (other 0 (omega arith), other 1 (omega arith), other 2 (omega arith), other 3 (omega arith), other 4 (omega arith), other 5 (omega arith), other 6 (omega arith), other 7 (omega arith), other 8 (omega arith), other 9 (omega arith))
+    let other : (j : ℕ) → j ≤ 10 → eqb k j ≡ false = λ j i. ne-eqb k j (λ e. omega arith) in
+    simp (other 0 (omega arith), other 1 (omega arith), other 2 (omega arith), other 3 (omega arith), other 4 (omega arith), other 5 (omega arith), other 6 (omega arith), other 7 (omega arith), other 8 (omega arith), other 9 (omega arith), other 10 (omega arith))
 
 -- each kind of a version has a row
 pub known-kind : (v k : ℕ) → offKind v k ≡ false → 0 < kindSize k
 unfolding kindSize
 known-kind v k e =
     let last = ltb-false (lastKind v) k e in
-    let most : lastKind v ≤ 9 = cond-le (eqb v 1) (omega arith) (omega arith) in
-    let sizes : AllBelow 10 (λ j. 0 < kindSize j)
-    = ((((((((((tt, zero-lt-suc 0), zero-lt-suc 8), zero-lt-suc 1), zero-lt-suc 8), zero-lt-suc 8), zero-lt-suc 5), zero-lt-suc 6), zero-lt-suc 1), zero-lt-suc 6), zero-lt-suc 8) in
-    below 10 (λ j. 0 < kindSize j) sizes k (omega arith)
+    let most : lastKind v ≤ 10 = cond-le (eqb v 1) (omega arith) (omega arith) in
+    let sizes : AllBelow 11 (λ j. 0 < kindSize j)
+    = (((((((((((tt, zero-lt-suc 0), zero-lt-suc 8), zero-lt-suc 1), zero-lt-suc 8), zero-lt-suc 8), zero-lt-suc 5), zero-lt-suc 6), zero-lt-suc 1), zero-lt-suc 6), zero-lt-suc 8), zero-lt-suc 12) in
+    below 11 (λ j. 0 < kindSize j) sizes k (omega arith)
 
 -- what holds of the kinds one by one holds of each known kind
-pub each-kind : (P : ℕ → Type 0) → AllBelow 10 P → (k : ℕ) → 0 < kindSize k → P k
-each-kind P rows k h = ⊎-elim (below 10 P rows k) (λ i. absurd (let z = unknown-kind k (omega arith) in omega arith)) (lt-or-le k 10)
+pub each-kind : (P : ℕ → Type 0) → AllBelow 11 P → (k : ℕ) → 0 < kindSize k → P k
+each-kind P rows k h = ⊎-elim (below 11 P rows k) (λ i. absurd (let z = unknown-kind k (omega arith) in omega arith)) (lt-or-le k 11)
 
 -- a record that was read is of the kind that it was read by
 pub kind-found : (k : ℕ) (s : List ℕ) → 0 < kindSize k → kindOf (decoded k s) ≡ k
 unfolding kindOf decoded
-kind-found k s = each-kind (λ j. kindOf (decoded j s) ≡ j) ((((((((((tt, refl), refl), refl), refl), refl), refl), refl), refl), refl), refl) k
+kind-found k s = each-kind (λ j. kindOf (decoded j s) ≡ j) (((((((((((tt, refl), refl), refl), refl), refl), refl), refl), refl), refl), refl), refl) k
 
 -- a record's kind is one of the rows, and none is longer than the array
 pub record-most : (r : Record) → length (recordBytes r) ≤ recordMost
 unfolding kindSize
 record-most r =
     let size = record-size r in
-    let rows : AllBelow 10 (λ j. kindSize j ≤ recordMost)
-    = ((((((((((tt, omega arith), omega arith), omega arith), omega arith), omega arith), omega arith), omega arith), omega arith), omega arith), omega arith) in
+    let rows : AllBelow 11 (λ j. kindSize j ≤ recordMost)
+    = (((((((((((tt, omega arith), omega arith), omega arith), omega arith), omega arith), omega arith), omega arith), omega arith), omega arith), omega arith), omega arith) in
     let most = each-kind (λ j. kindSize j ≤ recordMost) rows (kindOf r) (omega arith) in
     omega arith
 

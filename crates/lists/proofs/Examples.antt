@@ -4,10 +4,11 @@ use mathlib.Core.Bool.{Bool, true, false}
 use mathlib.Core.List.{List, [], _∷_, _++_}
 use Prim.Native.Nat.{ℕ}
 use native.Mathlib.Omega.{arith}
-use lib.IntN.{pos}
+use lib.IntN.{pos, negsuc}
 use Rattle.lights.specs.Lights.{fit}
-use Rattle.shapes.specs.Limits.{basisBy, sizeRefusal, basisRefusal, offSize, playerRefusal, refusalWithin, offRange, refusalsOf, recordRefusal}
-use Rattle.shapes.specs.declared.Shape.the-variants.{Line as line, Disc as disc, Ring as ring}
+use Rattle.shapes.specs.Span.{width, height}
+use Rattle.shapes.specs.Limits.{basisBy, sizeRefusal, basisRefusal, offSize, playerRefusal, refusalWithin, offRange, refusalsOf, onOneLine, recordRefusal}
+use Rattle.shapes.specs.declared.Shape.the-variants.{Line as line, Disc as disc, Ring as ring, Triangle as triangle}
 use Rattle.shapes.specs.declared.Setting.the-variants.{Player as player}
 use Rattle.shapes.specs.declared.Record.{Record}
 use Rattle.shapes.specs.declared.Record.the-variants.{End as end, Setting as setting, Shape as shape}
@@ -87,6 +88,26 @@ rooms :
     × (recordWriteRefusal 30 10 (basisBy 1 4 3) (disc-record 300 true) ≡ 4)
 unfolding sizeRefusal basisRefusal offSize refusalWithin offRange refusalsOf recordRefusal kindOf fieldsOf recordWriteRefusal
 rooms = (refl, refl, refl)
+
+-- a triangle from (0, 0) to (x1, 0), which stands in low and high, to (−1, y2)
+abbrev corners : ℕ → ℕ → ℕ → List ℕ
+corners low high y2 = 10 ∷ 0 ∷ 0 ∷ 0 ∷ 0 ∷ low ∷ high ∷ 0 ∷ 0 ∷ 255 ∷ 255 ∷ y2 ∷ 0 ∷ []
+
+abbrev triangle-record : ℕ → ℕ → Record
+triangle-record x1 y2 =
+    shape (triangle (record { x0 = pos 0; y0 = pos 0; x1 = pos x1; y1 = pos 0; x2 = negsuc 0; y2 = pos y2 }))
+
+-- a triangle 127 wide in version 2; in version 1; 128 wide; on one line; both of these; out of range too; and cut short
+triangles : (lights : List ℕ) → fit lights ≡ true
+    → (pageRecords (start 2 ++ corners 126 0 127 ++ 0 ∷ []) 12 lights ≡ accepted (triangle-record 126 127 ∷ end ∷ []))
+    × (pageRecords (start 1 ++ corners 126 0 127 ++ 0 ∷ []) 12 lights ≡ refused 4 10)
+    × (pageRecords (start 2 ++ corners 127 0 127 ++ 0 ∷ []) 12 lights ≡ refused 34 10)
+    × (pageRecords (start 2 ++ corners 126 0 0 ++ 0 ∷ []) 12 lights ≡ refused 35 10)
+    × (pageRecords (start 2 ++ corners 127 0 0 ++ 0 ∷ []) 12 lights ≡ refused 34 10)
+    × (pageRecords (start 2 ++ corners 0 16 0 ++ 0 ∷ []) 12 lights ≡ refused 7 10)
+    × (pageRecords (start 2 ++ 10 ∷ 0 ∷ []) 12 lights ≡ refused 5 10)
+unfolding sizeRefusal basisRefusal offSize width height refusalWithin offRange refusalsOf onOneLine recordRefusal kindSize decoded readRefusal headerRefusal recordsFrom recordsOf
+triangles lights e = (rw e refl, rw e refl, rw e refl, rw e refl, rw e refl, rw e refl, rw e refl)
 
 -- in lights that are not fit: on a page that is too short, and on one that is not; before every record
 unfit : (lights : List ℕ) → fit lights ≡ false

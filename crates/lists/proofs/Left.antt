@@ -59,7 +59,7 @@ player-kept b f (setting (clip c)) o z k = k
 player-kept b f (setting (level v)) o z k = k
 player-kept b f (setting (player p)) o z k = go (eqb (b .version) 1) o
   where
-    go : (one : Bool) → ltb (cond one 6 9) 7 ≡ false → p < cond one 1 8
+    go : (one : Bool) → ltb (cond one 6 10) 7 ≡ false → p < cond one 1 8
     go true e = absurd (let h = ltb-false 6 7 e in omega arith)
     go false e = let h = ltb-false 7 p (clear (ltb 7 p) 30 0 z .0) in omega arith
 player-kept b f (shape s) o z k = k

@@ -15,8 +15,9 @@ use Rattle.shapes.specs.Limits.{basisRefusal, refusalWithin, radiusRoom, record
 use Rattle.shapes.specs.declared.Line.{Line}
 use Rattle.shapes.specs.declared.Disc.{Disc}
 use Rattle.shapes.specs.declared.Ring.{Ring}
+use Rattle.shapes.specs.declared.Triangle.{Triangle}
 use Rattle.shapes.specs.declared.Shape.{Shape}
-use Rattle.shapes.specs.declared.Shape.the-variants.{Line as line, Disc as disc, Ring as ring}
+use Rattle.shapes.specs.declared.Shape.the-variants.{Line as line, Disc as disc, Ring as ring, Triangle as triangle}
 use Rattle.shapes.specs.declared.Setting.the-variants.{Clip as clip, Level as level, Player as player}
 use Rattle.shapes.specs.declared.Basis.{Basis}
 use Rattle.shapes.specs.declared.Record.{Record}
@@ -27,6 +28,7 @@ use Rattle.lists.specs.Write.{putAt, recordWritten, recordList}
 use Rattle.lists.specs.declared.read.Reading.the-variants.{Found}
 use Rattle.lists.proofs.Bytes.{record-size}
 use Rattle.shapes.proofs.Limits.{LawfulLine, line-lawful, LawfulCircle, disc-lawful, ring-lawful}
+use Rattle.shapes.proofs.Triangles.{CornersIn, triangle-lawful}
 use Rattle.lists.proofs.Writes.{writable, record-done, written-refusal}
 
 -- ---- a record from its own bytes, whatever bytes follow
@@ -80,10 +82,17 @@ module _ (t : List ℕ) where
           let at = coordinate-back in
           λ i. shape (ring (record { x = at (g .x) (p .x-in) i; y = at (g .y) (p .y-in) i; radius = g .radius; width = g .width; big = false }))
 
+  triangle-back : (g : Triangle) → CornersIn g → recordAt (recordBytes (shape (triangle g)) ++ t) ≡ shape (triangle g)
+  unfolding kindOf fieldsOf decoded
+  triangle-back g p =
+      let at = coordinate-back in
+      λ i. shape (triangle (record { x0 = at (g .x0) (p .x0-in) i; y0 = at (g .y0) (p .y0-in) i; x1 = at (g .x1) (p .x1-in) i; y1 = at (g .y1) (p .y1-in) i; x2 = at (g .x2) (p .x2-in) i; y2 = at (g .y2) (p .y2-in) i }))
+
   shape-back : (s : Shape) → refusalWithin (radiusRoom s) s ≡ 0 → recordAt (recordBytes (shape s) ++ t) ≡ shape s
   shape-back (line l) e = line-back l (line-lawful l e)
   shape-back (disc d) e = disc-back d (disc-lawful d e)
   shape-back (ring g) e = ring-back g (ring-lawful g e .circle)
+  shape-back (triangle g) e = triangle-back g (triangle-lawful g e .corners)
 
   pub record-back : (b : Basis) (r : Record) → recordRefusal b r ≡ 0 → recordAt (recordBytes r ++ t) ≡ r
   unfolding kindOf fieldsOf decoded recordRefusal

@@ -10,7 +10,7 @@ use lib.ListN.{length, drop}
 use Rattle.shapes.specs.Limits.{first, basisRefusal, refusalWithin, radiusRoom, recordRefusal}
 use Rattle.shapes.proofs.Limits.{clear, tried-clear, disc-lawful, ring-lawful}
 use Rattle.shapes.specs.declared.Shape.{Shape}
-use Rattle.shapes.specs.declared.Shape.the-variants.{Line as line, Disc as disc, Ring as ring}
+use Rattle.shapes.specs.declared.Shape.the-variants.{Line as line, Disc as disc, Ring as ring, Triangle as triangle}
 use Rattle.shapes.specs.declared.Basis.{Basis}
 use Rattle.shapes.specs.declared.Record.{Record}
 use Rattle.shapes.specs.declared.Record.the-variants.{End as end, Setting as setting, Shape as shape}
@@ -49,6 +49,7 @@ unfolding ShapeFits
 shape-fits (line l) e = tt
 shape-fits (disc d) e = (disc-lawful d e .most, omega arith)
 shape-fits (ring g) e = let p = ring-lawful g e in (p .circle .most, p .most)
+shape-fits (triangle t) e = tt
 
 pub record-fits : (b : Basis) (r : Record) → recordRefusal b r ≡ 0 → RecordFits r
 unfolding recordRefusal

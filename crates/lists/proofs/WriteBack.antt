@@ -64,33 +64,27 @@ module _ (s : List ℕ) (b : AllBytes s) where
   abbrev Again : ℕ → Type 0
   Again k = getD s 0 0 ≡ k → recordBytes (decoded k s) ≡ firsts (kindSize k) 0 s
 
-  -- the centre of a disc or a ring, and what stands behind it
+  -- the coordinates of a centre, of two ends and of three corners, and what stands behind them
   centre : {bs cs : List ℕ} → bs ≡ cs → coordinates (coordinateAt s 1 ∷ coordinateAt s 3 ∷ []) ++ bs ≡ firsts 4 1 s ++ cs
   unfolding firsts
   centre e = coordinate-then (b 1) (b 2) (coordinate-then (b 3) (b 4) e)
 
-  kinds-again : AllBelow 10 Again
+  ends : {bs cs : List ℕ} → bs ≡ cs → coordinates (coordinateAt s 1 ∷ coordinateAt s 3 ∷ coordinateAt s 5 ∷ coordinateAt s 7 ∷ []) ++ bs ≡ firsts 8 1 s ++ cs
+  unfolding firsts
+  ends e = centre (coordinate-then (b 5) (b 6) (coordinate-then (b 7) (b 8) e))
+
+  corners : coordinates (coordinateAt s 1 ∷ coordinateAt s 3 ∷ coordinateAt s 5 ∷ coordinateAt s 7 ∷ coordinateAt s 9 ∷ coordinateAt s 11 ∷ []) ≡ firsts 12 1 s
+  unfolding firsts
+  corners = ends (coordinate-then (b 9) (b 10) (coordinate-then (b 11) (b 12) refl))
+
+  kinds-again : AllBelow 11 Again
   unfolding firsts kindSize kindOf fieldsOf decoded
   kinds-again =
       let edges : words (wordAt s 1 ∷ wordAt s 3 ∷ wordAt s 5 ∷ wordAt s 7 ∷ []) ≡ firsts 8 1 s
       = word-then (b 1) (word-then (b 3) (word-then (b 5) (word-then (b 7) refl))) in
-      let ends : coordinates (coordinateAt s 1 ∷ coordinateAt s 3 ∷ coordinateAt s 5 ∷ coordinateAt s 7 ∷ []) ≡ firsts 8 1 s
-      = coordinate-then (b 1) (b 2) (coordinate-then (b 3) (b 4) (coordinate-then (b 5) (b 6) (coordinate-then (b 7) (b 8) refl))) in (
-        (
-          (
-            (
-              (
-                (((((tt, λ e. front e refl), λ e. front e edges), λ e. front e refl), λ e. front e ends), λ e. front e ends),
-                λ e. front e (centre refl),
-              ),
-              λ e. front e (centre refl),
-            ),
-            λ e. front e refl,
-          ),
-          λ e. front e (centre (word-then (b 5) refl)),
-        ),
-        λ e. front e (centre (word-then (b 5) (word-then (b 7) refl))),
-      )
+      let first : AllBelow 5 Again = (((((tt, λ e. front e refl), λ e. front e edges), λ e. front e refl), λ e. front e (ends refl)), λ e. front e (ends refl)) in
+      let next : AllBelow 8 Again = (((first, λ e. front e (centre refl)), λ e. front e (centre refl)), λ e. front e refl) in
+      (((next, λ e. front e (centre (word-then (b 5) refl))), λ e. front e (centre (word-then (b 5) (word-then (b 7) refl)))), λ e. front e corners)
 
   kind-again : (k : ℕ) → 0 < kindSize k → Again k
   kind-again = each-kind Again kinds-again

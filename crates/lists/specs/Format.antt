@@ -10,7 +10,8 @@ use Rattle.shapes.specs.Limits.{basisBy}
 use Rattle.shapes.specs.declared.Line.{Line}
 use Rattle.shapes.specs.declared.Disc.{Disc}
 use Rattle.shapes.specs.declared.Ring.{Ring}
-use Rattle.shapes.specs.declared.Shape.the-variants.{Line as line, Disc as disc, Ring as ring}
+use Rattle.shapes.specs.declared.Triangle.{Triangle}
+use Rattle.shapes.specs.declared.Shape.the-variants.{Line as line, Disc as disc, Ring as ring, Triangle as triangle}
 use Rattle.shapes.specs.declared.Clip.{Clip}
 use Rattle.shapes.specs.declared.Basis.{Basis}
 use Rattle.shapes.specs.declared.Setting.the-variants.{Clip as clip, Level as level, Player as player}
@@ -61,6 +62,10 @@ bigDiscAt s = record { x = coordinateAt s 1; y = coordinateAt s 3; radius = word
 abbrev pub bigRingAt : List ℕ → Ring
 bigRingAt s = record { x = coordinateAt s 1; y = coordinateAt s 3; radius = wordAt s 5; width = wordAt s 7; big = true }
 
+abbrev pub triangleAt : List ℕ → Triangle
+triangleAt s =
+    record { x0 = coordinateAt s 1; y0 = coordinateAt s 3; x1 = coordinateAt s 5; y1 = coordinateAt s 7; x2 = coordinateAt s 9; y2 = coordinateAt s 11 }
+
 -- ---- the kinds
 
 -- a kind: its number, how many bytes a record has, the kind byte with them, and the record at the front of some bytes
@@ -84,6 +89,7 @@ kinds =
     ∷ kind 7 2 (λ s. setting (player (getD s 1 0)))
     ∷ kind 8 7 (λ s. shape (disc (bigDiscAt s)))
     ∷ kind 9 9 (λ s. shape (ring (bigRingAt s)))
+    ∷ kind 10 13 (λ s. shape (triangle (triangleAt s)))
     ∷ []
 
 -- the size and the record by the row of kind k; 0 and an end record where there is none
@@ -103,7 +109,7 @@ decoded = foundIn kinds
 
 -- a version has the kinds from 0 to its last
 abbrev pub lastKind : ℕ → ℕ
-lastKind v = cond (eqb v 1) 6 9
+lastKind v = cond (eqb v 1) 6 10
 
 -- 4: a kind that version v does not have
 abbrev pub offKind : ℕ → ℕ → Bool
@@ -118,6 +124,7 @@ kindOf (setting (player p)) = 7
 kindOf (shape (line l)) = cond (l .exact) 3 4
 kindOf (shape (disc d)) = cond (d .big) 8 5
 kindOf (shape (ring g)) = cond (g .big) 9 6
+kindOf (shape (triangle t)) = 10
 
 abbrev pub kindAt : List ℕ → ℕ
 kindAt s = getD s 0 0
@@ -158,6 +165,7 @@ fieldsOf (setting (player p)) = p ∷ []
 fieldsOf (shape (line l)) = coordinates (l .x0 ∷ l .y0 ∷ l .x1 ∷ l .y1 ∷ [])
 fieldsOf (shape (disc d)) = coordinates (d .x ∷ d .y ∷ []) ++ measures (d .big) (d .radius ∷ [])
 fieldsOf (shape (ring g)) = coordinates (g .x ∷ g .y ∷ []) ++ measures (g .big) (g .radius ∷ g .width ∷ [])
+fieldsOf (shape (triangle t)) = coordinates (t .x0 ∷ t .y0 ∷ t .x1 ∷ t .y1 ∷ t .x2 ∷ t .y2 ∷ [])
 
 abbrev pub recordBytes : Record → List ℕ
 recordBytes r = kindOf r ∷ fieldsOf r

@@ -48,7 +48,7 @@ onto r (refused f place) = refused f place
 abbrev pub behindEnd : List ℕ → ℕ → Records
 behindEnd s place = cond (ltb 0 (length s)) (refused 6 place) (accepted [])
 
--- the records of the bytes s that begin at a place: 4, 5, 7 to 11, 31 and 33 of each record, at its first byte.
+-- the records of the bytes s that begin at a place: 4, 5, 7 to 11, 31 and 33 to 35 of each record, at its first byte.
 -- A record has a byte at least, so that the fuel lasts if it is above the length.
 unfoldable pub recordsFrom : ℕ → Basis → List ℕ → ℕ → Records
 recordsFrom zero b s place = refused 5 place

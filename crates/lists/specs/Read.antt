@@ -10,7 +10,7 @@ use Rattle.lists.specs.Format.{offKind, kindAt, sizeAt, recordAt}
 use Rattle.lists.specs.declared.read.Reading.{Reading}
 use Rattle.lists.specs.declared.read.Reading.the-variants.{Found, Refused}
 
--- 2; 3; 5 where no byte is lent; 4; 5; then those of 7 to 11, 31 and 33 that the kind has
+-- 2; 3; 5 where no byte is lent; 4; 5; then those of 7 to 11, 31 and 33 to 35 that the kind has
 unfoldable pub readRefusal : Basis → List ℕ → ℕ
 readRefusal b s =
     first

@@ -23,7 +23,7 @@ tooFew n last = ltb (min n listMost) last
 unfoldable pub headerWriteRefusal : ℕ → Header → ℕ
 headerWriteRefusal n d = first (tried (basisRefusal (basisOf d)) ∷ (tooFew n headerSize, 22) ∷ [])
 
--- a record where the basis b is held: 2; 3; 4; those of 7 to 11, 31 and 33 that the kind has; 22
+-- a record where the basis b is held: 2; 3; 4; those of 7 to 11, 31 and 33 to 35 that the kind has; 22
 unfoldable pub recordWriteRefusal : ℕ → ℕ → Basis → Record → ℕ
 recordWriteRefusal n place b r =
     first

@@ -4,7 +4,7 @@ ghost use Prim.Native.Nat.{_+_, _≤_};
 ghost use lib.ListN.{length};
 ghost use mathlib.Core.Bool.{cond};
 ghost use mathlib.Core.List.{[], _∷_, _++_};
-ghost use Rattle.lists.specs.Format.{headerSize, kindSize, lastKind, kindOf, words, coordinates, measures, headerBytes, recordBytes, wordAt, coordinateAt, headerAt, basisOf, clipAt, lineAt, discAt, ringAt, bigDiscAt, bigRingAt, recordAt};
+ghost use Rattle.lists.specs.Format.{headerSize, kindSize, lastKind, kindOf, words, coordinates, measures, headerBytes, recordBytes, wordAt, coordinateAt, headerAt, basisOf, clipAt, lineAt, discAt, ringAt, bigDiscAt, bigRingAt, triangleAt, recordAt};
 ghost use Rattle.lists.specs.inner.Record.{Whole, padded, CircleFits, ShapeFits, RecordFits};
 use shapes::Basis;
 use shapes::Clip;
@@ -14,6 +14,7 @@ use shapes::Record;
 use shapes::Ring;
 use shapes::Setting;
 use shapes::Shape;
+use shapes::Triangle;
 
 // How many bytes a header has.
 pub const HEADER_SIZE: usize = 10;
@@ -23,6 +24,9 @@ pub const LIST_MOST: usize = 65536;
 
 // How many bytes the array of a record or a header has; each fits.
 pub(crate) const RECORD_MOST: usize = 13;
+
+// The kind of a triangle.
+pub const TRIANGLE_KIND: u8 = 10;
 
 // What a header tells: the version of the list, W, H and the background.
 pub struct Header {
@@ -47,6 +51,7 @@ pub fn kind_size(kind: u8) -> usize
         7 => 2,
         8 => 7,
         9 => 9,
+        10 => 13,
         _ => 0,
     }
 }
@@ -55,7 +60,7 @@ pub fn kind_size(kind: u8) -> usize
 pub(crate) fn last_kind(version: u16) -> u8
     ensures { λ r. ⌜ r ≡ lastKind version ⌝ }
 {
-    if version == 1 { 6 } else { 9 }
+    if version == 1 { 6 } else { 10 }
 }
 
 // The two bytes at a place, the low one first.
@@ -150,6 +155,20 @@ fn big_ring_at(list: &[u8]) -> Ring
     }
 }
 
+fn triangle_at(list: &[u8]) -> Triangle
+    requires { ⌜ 13 ≤ length (now list) ⌝ }
+    ensures { λ r. ⌜ r ≡ triangleAt (now (list .entry)) ⌝ }
+{
+    Triangle {
+        x0: coordinate_at(list, 1),
+        y0: coordinate_at(list, 3),
+        x1: coordinate_at(list, 5),
+        y1: coordinate_at(list, 7),
+        x2: coordinate_at(list, 9),
+        y2: coordinate_at(list, 11),
+    }
+}
+
 // The record whose bytes stand at the front.
 pub fn decode(list: &[u8]) -> Record
     requires { ⌜ Whole (now list) ⌝ }
@@ -166,6 +185,7 @@ pub fn decode(list: &[u8]) -> Record
         7 => Record::Setting(Setting::Player(list[1])),
         8 => Record::Shape(Shape::Disc(big_disc_at(list))),
         9 => Record::Shape(Shape::Ring(big_ring_at(list))),
+        10 => Record::Shape(Shape::Triangle(triangle_at(list))),
         _ => Record::End,
     }
 }
@@ -194,53 +214,52 @@ pub fn basis_of(header: Header) -> Basis
     }
 }
 
-// A kind byte and four words.
-fn four_words(kind: u8, a: u16, b: u16, c: u16, d: u16) -> [u8; RECORD_MOST]
-    ensures { λ r. ⌜ r ≡ padded (kind ∷ words (a ∷ b ∷ c ∷ d ∷ [])) ⌝ }
+// A kind byte and six words.
+fn six_words(kind: u8, a: u16, b: u16, c: u16, d: u16, e: u16, f: u16) -> [u8; RECORD_MOST]
+    ensures { λ r. ⌜ r ≡ kind ∷ words (a ∷ b ∷ c ∷ d ∷ e ∷ f ∷ []) ⌝ }
 {
     let p = numbers::word_bytes(a);
     let q = numbers::word_bytes(b);
     let r = numbers::word_bytes(c);
     let s = numbers::word_bytes(d);
+    let t = numbers::word_bytes(e);
+    let u = numbers::word_bytes(f);
     [
         kind,
-        p[0],
-        p[1],
-        q[0],
-        q[1],
-        r[0],
-        r[1],
-        s[0],
-        s[1],
-        0,
-        0,
-        0,
-        0,
+        p.low,
+        p.high,
+        q.low,
+        q.high,
+        r.low,
+        r.high,
+        s.low,
+        s.high,
+        t.low,
+        t.high,
+        u.low,
+        u.high,
     ]
 }
 
-// A kind byte, a centre, and a radius and a width of one byte each.
+// A kind byte and four words; the zeros behind them are two words more.
+fn four_words(kind: u8, a: u16, b: u16, c: u16, d: u16) -> [u8; RECORD_MOST]
+    ensures { λ r. ⌜ r ≡ padded (kind ∷ words (a ∷ b ∷ c ∷ d ∷ [])) ⌝ }
+{
+    six_words(kind, a, b, c, d, 0, 0)
+}
+
+// A kind byte, a centre, and a radius and a width of one byte each, which make one word.
 fn small_circle_bytes(kind: u8, x: i16, y: i16, radius: u16, width: u16) -> [u8; RECORD_MOST]
     requires { ⌜ (radius ≤ 255) × (width ≤ 255) ⌝ }
     ensures { λ r. ⌜ r ≡ padded (kind ∷ coordinates (x ∷ y ∷ []) ++ radius ∷ width ∷ []) ⌝ }
 {
-    let p = numbers::word_bytes(numbers::bits(x));
-    let q = numbers::word_bytes(numbers::bits(y));
-    [
+    four_words(
         kind,
-        p[0],
-        p[1],
-        q[0],
-        q[1],
-        radius as u8,
-        width as u8,
+        numbers::bits(x),
+        numbers::bits(y),
+        radius + 256 * width,
         0,
-        0,
-        0,
-        0,
-        0,
-        0,
-    ]
+    )
 }
 
 // A kind byte, a centre, a radius and a width.
@@ -325,6 +344,20 @@ fn ring_bytes(ring: Ring) -> [u8; RECORD_MOST]
     )
 }
 
+fn triangle_bytes(triangle: Triangle) -> [u8; RECORD_MOST]
+    ensures { λ r. ⌜ r ≡ padded (recordBytes (Record.Shape (Shape.Triangle triangle))) ⌝ }
+{
+    six_words(
+        TRIANGLE_KIND,
+        numbers::bits(triangle.x0),
+        numbers::bits(triangle.y0),
+        numbers::bits(triangle.x1),
+        numbers::bits(triangle.y1),
+        numbers::bits(triangle.x2),
+        numbers::bits(triangle.y2),
+    )
+}
+
 fn shape_bytes(shape: Shape) -> [u8; RECORD_MOST]
     requires { ⌜ ShapeFits shape ⌝ }
     ensures { λ r. ⌜ r ≡ padded (recordBytes (Record.Shape shape)) ⌝ }
@@ -333,6 +366,7 @@ fn shape_bytes(shape: Shape) -> [u8; RECORD_MOST]
         Shape::Line(line) => line_bytes(line),
         Shape::Disc(disc) => disc_bytes(disc),
         Shape::Ring(ring) => ring_bytes(ring),
+        Shape::Triangle(triangle) => triangle_bytes(triangle),
     }
 }
 
@@ -355,6 +389,7 @@ fn shape_kind(shape: Shape) -> u8
         Shape::Line(line) => line_kind(line.exact),
         Shape::Disc(disc) => disc_kind(disc.big),
         Shape::Ring(ring) => ring_kind(ring.big),
+        Shape::Triangle(_) => TRIANGLE_KIND,
     }
 }
 
@@ -379,26 +414,17 @@ pub(crate) fn record_size(rec: Record) -> usize
     kind_size(record_kind(rec))
 }
 
-// The bytes of a header, zeros behind them.
+// The bytes of a header, zeros behind them: the mark is a byte and a word, and the background with a zero behind it another word.
 pub(crate) fn header_bytes(header: Header) -> [u8; RECORD_MOST]
     ensures { λ r. ⌜ r ≡ padded (headerBytes header) ⌝ }
 {
-    let v = numbers::word_bytes(header.version);
-    let w = numbers::word_bytes(header.w);
-    let h = numbers::word_bytes(header.h);
-    [
+    six_words(
         b'I',
-        b'N',
-        b'K',
-        v[0],
-        v[1],
-        w[0],
-        w[1],
-        h[0],
-        h[1],
-        header.background,
+        numbers::word(b'N', b'K'),
+        header.version,
+        header.w,
+        header.h,
+        header.background as u16,
         0,
-        0,
-        0,
-    ]
+    )
 }

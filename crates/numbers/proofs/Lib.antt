@@ -5,3 +5,4 @@ pub mod Integer
 pub mod Coordinate
 pub mod Fraction
 pub mod Sum
+pub mod Inverse

@@ -1,12 +1,13 @@
 -- Cases and orders of naturals. `omega` multiplies products out and takes each monomial for an unknown, so an order that is not
 -- linear is proved by handing it the product of two facts.
 use mathlib.Core.Bool.{Bool, true, false, cond, _&&_}
-use mathlib.Core.Path.{_≡_, refl, subst}
+use mathlib.Core.Path.{_≡_, refl, _∙_, ap, subst}
 use mathlib.Core.Logic.{_⊎_, inl, inr, ⊎-elim}
-use Prim.Native.Nat.{ℕ, zero, suc, _+_, _*_, _≤_, _<_}
-use native.Mathlib.Nat.{le-dest, mul-le-mul, lt-of-not-le, mul-add, add-mul, mul-assoc, mul-comm, mul-left-comm, one-mul, mul-one}
+use Prim.Native.Nat.{ℕ, zero, suc, _+_, _*_, _-_, _≤_, _<_}
+use native.Mathlib.Nat.{le-dest, mul-le-mul, mul-le-mul-right, lt-of-not-le, mul-add, add-mul, mul-assoc, mul-comm, mul-left-comm, one-mul, mul-one}
 use native.Mathlib.Decide.{decLe}
 use native.Mathlib.Omega.{arith}
+use Rattle.numbers.specs.inner.Order.{dist}
 
 -- products in one order, for both sides of an equation that omega closes
 pub ruleset ring = (one-mul, mul-one, mul-add, add-mul, mul-assoc, mul-comm, mul-left-comm)
@@ -61,3 +62,18 @@ pub both-true : (a b : Bool) → (a && b) ≡ true → (a ≡ true) × (b ≡ tr
 both-true true true e = (refl, refl)
 both-true true false e = absurd (let z : _≡_ {A = ℕ} 0 1 = cc in omega arith)
 both-true false b e = absurd (let z : _≡_ {A = ℕ} 0 1 = cc in omega arith)
+
+-- a distance in units that are k times as small
+pub dist-times : (u w k : ℕ) → dist u w * k ≡ dist (u * k) (w * k)
+dist-times u w k = ⊎-elim (λ (h : u < w). low u w (omega arith)) (λ h. swap (low w u h)) (lt-or-le u w)
+  where
+    low : (u w : ℕ) → u ≤ w → dist u w * k ≡ dist (u * k) (w * k)
+    low u w h =
+        let t : w - u + u ≡ w = omega arith in
+        let z : dist u w ≡ w - u = omega arith in
+        rw z (omega (arith, ap (λ (v : ℕ). v * k) t, mul-le-mul-right k h))
+
+    swap : dist w u * k ≡ dist (w * k) (u * k) → dist u w * k ≡ dist (u * k) (w * k)
+    swap e =
+        let z : dist u w ≡ dist w u = omega arith in
+        rw z (e ∙ omega arith)

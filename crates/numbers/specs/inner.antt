@@ -2,3 +2,5 @@
 pub mod Order
 pub mod Offset
 pub mod Sound
+pub mod Equal
+pub mod Inverse

@@ -1,5 +1,6 @@
 // Whole-number arithmetic that the other crates share.
 ghost use mathlib.Core.Path.{_≡_};
+ghost use mathlib.Core.List.{[], _∷_};
 ghost use Prim.Native.Nat.{_-_, _≤_, _<_, min, max};
 ghost use Rattle.numbers.specs.inner.Order.{dist, Product, Remainder};
 ghost use Rattle.numbers.specs.Coordinate.{inRange, bitsOf, signedOf, wordOf, bytesOf};
@@ -100,9 +101,17 @@ pub fn word(low: u8, high: u8) -> u16
     low as u16 + 256 * (high as u16)
 }
 
-// The two bytes of a 16-bit number, the low one first.
-pub fn word_bytes(w: u16) -> [u8; 2]
-    ensures { λ r. ⌜ r ≡ bytesOf w ⌝ }
+// The two bytes of a 16-bit number.
+pub struct WordBytes {
+    pub low: u8,
+    pub high: u8,
+}
+
+pub fn word_bytes(w: u16) -> WordBytes
+    ensures { λ r. ⌜ r .low ∷ r .high ∷ [] ≡ bytesOf w ⌝ }
 {
-    [(w % 256) as u8, (w / 256) as u8]
+    WordBytes {
+        low: (w % 256) as u8,
+        high: (w / 256) as u8,
+    }
 }

@@ -1,6 +1,6 @@
 -- Laws of a page that is drawn part by part.
 use mathlib.Core.Path.{_≡_, refl, sym, ap, ap₂, _∙_}
-use mathlib.Core.Logic.{_⊎_, inl, inr}
+use mathlib.Core.Logic.{_⊎_, inl, inr, ⊎-elim}
 use mathlib.Core.List.{List}
 use Prim.Native.Nat.{ℕ, zero, suc, _+_, _-_, _*_, _≤_, _<_}
 use native.Mathlib.Nat.{mul-le-mul}
@@ -14,7 +14,7 @@ use Rattle.page.specs.declared.View.{View}
 use Rattle.page.proofs.Paint.{row-end, dot-some, length-painted, painted-ext, painted-zero, painted-join, painted-one, painted-stretch}
 use Rattle.page.proofs.Touches.{touches-le, touches-ext, touches-zero, touches-join, touches-one, touches-stretch}
 use Rattle.page.proofs.Over.{over-ext}
-use Rattle.page.proofs.Clip.{Inside, Outside, left-of, right-of, above, below, clip-ext, clip-shrink, Join, clip-columns}
+use Rattle.page.proofs.Clip.{Inside, Outside, left-of, right-of, above, below, in-or-out, clip-in, clip-out, clip-ext, clip-shrink, Join, clip-columns}
 
 pub drawn-none : (w h : ℕ) (ink : ℕ → ℕ → ℕ) (n : ℕ → ℕ → ℕ) (l : List ℕ) → ((x y : ℕ) → n x y ≡ 0) → Drawn w h ink n l l 0
 drawn-none w h ink n l e = record { page = painted-zero w ink n l e; count = sym (touches-zero w h n e) }
@@ -95,6 +95,18 @@ pub drawn-beside : {w h : ℕ} {ink : ℕ → ℕ → ℕ} {l m k : List ℕ} {t
     → Drawn w h ink (clipped q y s (y + 1) n) m k u
     → Drawn w h ink (clipped p y s (y + 1) n) l k (t + u)
 drawn-beside n y p q s h₁ h₂ = drawn-join (clipped p y s (y + 1) n) (clip-columns p y s (y + 1) q n h₁ h₂)
+
+-- columns a to x, then pixel x
+pub drawn-next : {w h : ℕ} {ink : ℕ → ℕ → ℕ} {l m : List ℕ} {t : ℕ} (n : ℕ → ℕ → ℕ) (a x y : ℕ) → a ≤ x → x < w → y < h → h * w ≤ length l
+    → Drawn w h ink (clipped a y x (y + 1) n) l m t
+    → Drawn w h ink (clipped a y (x + 1) (y + 1) n) l (set m (y * w + x) (dot ink (n x y) (getD m (y * w + x) 0))) (t + touch (n x y))
+drawn-next {w} {h} {ink} {l} {m} n a x y h₁ h₂ h₃ h₄ d =
+    let one = clip-in x y (x + 1) (y + 1) n x y (record { left = omega arith; right = omega arith; top = omega arith; bottom = omega arith }) in
+    drawn-beside n y a x (x + 1) h₁ (omega arith) d
+    (rw one at (drawn-one w h ink x y (clipped x y (x + 1) (y + 1) n) m h₂ h₃ (omega (arith, drawn-length d, h₄)) others))
+  where
+    others : (x′ y′ : ℕ) → ((x′ ≡ x) × (y′ ≡ y) → ⊥) → clipped x y (x + 1) (y + 1) n x′ y′ ≡ 0
+    others x′ y′ f = ⊎-elim (λ (i : Inside x y (x + 1) (y + 1) x′ y′). absurd (f (omega arith, omega arith))) (clip-out x y (x + 1) (y + 1) n x′ y′) (in-or-out x y (x + 1) (y + 1) x′ y′)
 
 -- columns q to r, all of them whole
 pub drawn-full : {w h : ℕ} {ink : ℕ → ℕ → ℕ} {l m : List ℕ} {t : ℕ} (n : ℕ → ℕ → ℕ) (d y q r : ℕ)

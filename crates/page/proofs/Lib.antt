@@ -5,3 +5,4 @@ pub mod Clamp
 pub mod Paint
 pub mod Touches
 pub mod Drawn
+pub mod Same

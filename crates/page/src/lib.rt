@@ -18,15 +18,8 @@ pub struct View {
     pub y1: usize,
 }
 
-// The byte u of a pixel of coverage n over d under the ink of level v; m is the scale of d. No coverage keeps it, so that none is tested.
-fn ink_byte(palette: &[u16], u: u8, v: u8, n: u64, d: u64, m: u64) -> u8
-    requires { ⌜ Palette (now palette) × Coverage n d × Scaled (now palette) d m ⌝ }
-    ensures { λ r. ⌜ r ≡ dot (inkOf (lightsIn (now (palette .entry))) v d) n u ⌝ }
-{
-    lights::blend_byte(palette, u, v, n, d, m)
-}
-
-// The same in lights at even steps, and in others.
+// The byte u of a pixel of coverage n over d under the ink of level v, in lights at even steps, and in others; m is the scale of d. No coverage
+// keeps it, so that none is tested.
 fn ink_even(palette: &[u16], u: u8, v: u8, n: u64, d: u64, m: u64) -> u8
     requires { ⌜ Palette (now palette) × (length (now palette) ≡ 256) × Coverage n d × Scaled (now palette) d m ⌝ }
     ensures { λ r. ⌜ r ≡ dot (inkOf (lightsIn (now (palette .entry))) v d) n u ⌝ }
@@ -56,16 +49,7 @@ pub fn ink_uneven_512(palette: &[u16], u: u8, v: u8, n: u64, m: u64) -> u8
     lights::uneven::blend_uneven_512(palette, u, v, n, m)
 }
 
-// Blends byte k of a page.
-pub fn put(page: &mut [u8], palette: &[u16], k: usize, v: u8, n: u64, d: u64, m: u64)
-    requires { ⌜ (k < length (now page)) × Palette (now palette) × Coverage n d × Scaled (now palette) d m ⌝ }
-    ensures { λ _. ⌜ now (page .exit) ≡ set (now (page .entry)) k (dot (inkOf (lightsIn (now (palette .entry))) v d) n (getD (now (page .entry)) k 0)) ⌝ }
-{
-    let u = page[k];
-    page[k] = ink_byte(palette, u, v, n, d, m);
-}
-
-// The same in lights at even steps, and in others.
+// Blends byte k of a page, in lights at even steps, and in others.
 pub fn put_even(page: &mut [u8], palette: &[u16], k: usize, v: u8, n: u64, d: u64, m: u64)
     requires { ⌜ (k < length (now page)) × Palette (now palette) × (length (now palette) ≡ 256) × Coverage n d × Scaled (now palette) d m ⌝ }
     ensures { λ _. ⌜ now (page .exit) ≡ set (now (page .entry)) k (dot (inkOf (lightsIn (now (palette .entry))) v d) n (getD (now (page .entry)) k 0)) ⌝ }
@@ -80,6 +64,18 @@ pub fn put_uneven(page: &mut [u8], palette: &[u16], k: usize, v: u8, n: u64, d: 
 {
     let u = page[k];
     page[k] = ink_uneven(palette, u, v, n, d, m);
+}
+
+// The same in any lights.
+pub fn put(page: &mut [u8], palette: &[u16], k: usize, v: u8, n: u64, d: u64, m: u64)
+    requires { ⌜ (k < length (now page)) × Palette (now palette) × Coverage n d × Scaled (now palette) d m ⌝ }
+    ensures { λ _. ⌜ now (page .exit) ≡ set (now (page .entry)) k (dot (inkOf (lightsIn (now (palette .entry))) v d) n (getD (now (page .entry)) k 0)) ⌝ }
+{
+    if palette.len() == 256 {
+        put_even(page, palette, k, v, n, d, m);
+    } else {
+        put_uneven(page, palette, k, v, n, d, m);
+    }
 }
 
 // Gives every byte of a stretch the level v.

@@ -1,3 +1,4 @@
--- Laws of the limits and of the spans of a line.
+-- Laws of the limits, of the spans of a line, and of triangles.
 pub mod Limits
 pub mod Span
+pub mod Triangles

@@ -15,7 +15,7 @@ use Rattle.numbers.specs.inner.Order.{dist}
 use Rattle.numbers.specs.Coordinate.{inRange}
 use Rattle.numbers.specs.inner.Offset.{offsetMost, offsetOf}
 use Rattle.numbers.proofs.Order.{lt-or-le, eq-or-ne, cond-le}
-use Rattle.numbers.proofs.Integer.{diff-le, le-diff}
+use Rattle.numbers.proofs.Integer.{Diff, diff-le, le-diff}
 use Rattle.numbers.proofs.Coordinate.{InRange, in-range, range-offset}
 use Rattle.shapes.specs.Limits.{offVersion, outside, same, offRange, refusalsOf, radiusMost, circleRoom, radiusRoom, sizeRefusal, basisRefusal, refusalWithin, shapeRefusal}
 use Rattle.shapes.specs.inner.Offsets.{pointOf, endsOf}
@@ -25,8 +25,9 @@ use Rattle.shapes.specs.declared.Basis.{Basis}
 use Rattle.shapes.specs.declared.Line.{Line}
 use Rattle.shapes.specs.declared.Disc.{Disc}
 use Rattle.shapes.specs.declared.Ring.{Ring}
+use Rattle.shapes.specs.declared.Triangle.{Triangle}
 use Rattle.shapes.specs.declared.Shape.{Shape}
-use Rattle.shapes.specs.declared.Shape.the-variants.{Line as line, Disc as disc, Ring as ring}
+use Rattle.shapes.specs.declared.Shape.the-variants.{Line as line, Disc as disc, Ring as ring, Triangle as triangle}
 
 -- the disc around a ring
 abbrev pub outer : Ring → Disc
@@ -73,21 +74,24 @@ outside-offset z = ap not (range-offset z) ∙ go (lt-or-le (offsetOf z) (offset
     go (inl h) = rw (lt-ltb (offsetOf z) (offsetMost + 1) h, le-ltb offsetMost (offsetOf z) (omega arith))
     go (inr h) = rw (le-ltb (offsetOf z) (offsetMost + 1) h, lt-ltb offsetMost (offsetOf z) (omega arith))
 
-in-of : {z : ℤ} → outside z ≡ false → InRange z
+pub in-of : {z : ℤ} → outside z ≡ false → InRange z
 in-of {z} e = in-range z (not-false (inRange z) e)
 
--- equality of two coordinates in range: a ≤ b ≤ a, and so their offsets, which differ from them by one number
-same-offset : {a b : ℤ} → InRange a → InRange b → same a b ≡ eqb (offsetOf a) (offsetOf b)
-same-offset {a} {b} p q = go (eq-or-ne (offsetOf a) (offsetOf b))
+-- a ≤ b ≤ a, by differences of naturals; m and n are equal just where these are
+pub same-by : {a b : ℤ} {p q r s : ℕ} → Diff a p q → Diff b r s → (m n : ℕ) → (p + s ≡ r + q → m ≡ n) → (m ≡ n → p + s ≡ r + q) → same a b ≡ eqb m n
+same-by {a} {b} {p} {q} {r} {s} u v m n to from = go (eq-or-ne m n)
   where
-    le : {z y : ℤ} → InRange z → InRange y → offsetOf z ≤ offsetOf y → leZ z y ≡ true
-    le {z} {y} p q h = T-true (leZ z y) (le-diff (p .diff) (q .diff) (omega arith))
-
-    go : (offsetOf a ≡ offsetOf b) ⊎ (offsetOf a ≡ offsetOf b → ⊥) → same a b ≡ eqb (offsetOf a) (offsetOf b)
-    go (inl e) = rw (le p q (omega arith), le q p (omega arith), eq-eqb (offsetOf a) (offsetOf b) e)
+    go : (m ≡ n) ⊎ (m ≡ n → ⊥) → same a b ≡ eqb m n
+    go (inl e) =
+        let k = from e in
+        rw (T-true (leZ a b) (le-diff u v (omega arith)), T-true (leZ b a) (le-diff v u (omega arith)), eq-eqb m n e)
     go (inr f) =
-        T-false (same a b) (λ t. f (let h = T-both (leZ a b) (leZ b a) t in omega (arith, diff-le (p .diff) (q .diff) (h .0), diff-le (q .diff) (p .diff) (h .1))))
-        ∙ sym (ne-eqb (offsetOf a) (offsetOf b) f)
+        T-false (same a b) (λ t. f (to (let h = T-both (leZ a b) (leZ b a) t in omega (arith, diff-le u v (h .0), diff-le v u (h .1)))))
+        ∙ sym (ne-eqb m n f)
+
+-- equality of two coordinates in range: that of their offsets, which differ from them by one number
+same-offset : {a b : ℤ} → InRange a → InRange b → same a b ≡ eqb (offsetOf a) (offsetOf b)
+same-offset {a} {b} p q = same-by (p .diff) (q .diff) (offsetOf a) (offsetOf b) (λ e. omega arith) (λ e. omega arith)
 
 -- a local of some width gives back the number that it was given
 pub kept : (w : Width) (z : ℤ) → mag z < 2 ^ hbits w → toZ w (ofZ w z) ≡ z
@@ -140,10 +144,14 @@ ring-refusals m g =
     go false false true n = refl
     go false false false n = refl
 
--- a line has no radius, so that any may be the greatest
+-- a line and a triangle have no radius, so that any may be the greatest
 pub line-within : (m : ℕ) (l : Line) → refusalWithin m (line l) ≡ shapeRefusal (line l)
 unfolding refusalWithin refusalsOf
 line-within m l = refl
+
+pub triangle-within : (m : ℕ) (t : Triangle) → refusalWithin m (triangle t) ≡ shapeRefusal (triangle t)
+unfolding refusalWithin refusalsOf
+triangle-within m t = refl
 
 -- ---- what a shape without a refusal has
 
@@ -232,6 +240,7 @@ wider m s h = of s
     of (line l) z = z
     of (disc d) z = circle (outside (d .x) || outside (d .y)) (eqb (d .radius) 0) (d .radius) 0 z
     of (ring g) z = circle (outside (g .x) || outside (g .y)) (eqb (g .radius) 0) (g .radius) _ z
+    of (triangle t) z = z
 
 -- what a record may hold, a call may be handed
 pub record-shape : (s : Shape) → refusalWithin (radiusRoom s) s ≡ 0 → shapeRefusal s ≡ 0
@@ -241,6 +250,7 @@ record-shape s = wider (radiusRoom s) s (room s)
     room (line l) = omega arith
     room (disc d) = cond-le (d .big) (omega arith) (omega arith)
     room (ring g) = cond-le (g .big) (omega arith) (omega arith)
+    room (triangle t) = omega arith
 
 -- ---- a basis without a refusal has a lawful page
 pub basis-size : (b : Basis) → basisRefusal b ≡ 0 → sizeRefusal (b .w) (b .h) ≡ 0

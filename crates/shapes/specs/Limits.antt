@@ -3,11 +3,13 @@ use mathlib.Core.Bool.{Bool, not, cond, _&&_, _||_}
 use mathlib.Core.List.{List, [], _∷_}
 use Prim.Native.Nat.{ℕ}
 use lib.Dec.{ltb, leb, eqb}
-use lib.IntN.{ℤ}
+use lib.IntN.{ℤ, _-ℤ_, _*ℤ_}
 use lib.Signed.{leZ}
 use Rattle.numbers.specs.Coordinate.{inRange}
+use Rattle.shapes.specs.Span.{width, height}
+use Rattle.shapes.specs.declared.Triangle.{Triangle}
 use Rattle.shapes.specs.declared.Shape.{Shape}
-use Rattle.shapes.specs.declared.Shape.the-variants.{Line as line, Disc as disc, Ring as ring}
+use Rattle.shapes.specs.declared.Shape.the-variants.{Line as line, Disc as disc, Ring as ring, Triangle as triangle}
 use Rattle.shapes.specs.declared.Clip.{Clip}
 use Rattle.shapes.specs.declared.Basis.{Basis}
 use Rattle.shapes.specs.declared.Setting.the-variants.{Clip as clip, Level as level, Player as player}
@@ -42,6 +44,7 @@ unfoldable pub offRange : Shape → Bool
 offRange (line l) = outside (l .x0) || outside (l .y0) || outside (l .x1) || outside (l .y1)
 offRange (disc d) = outside (d .x) || outside (d .y)
 offRange (ring g) = outside (g .x) || outside (g .y)
+offRange (triangle t) = outside (t .x0) || outside (t .y0) || outside (t .x1) || outside (t .y1) || outside (t .x2) || outside (t .y2)
 
 -- 8: a clip out of order or off the page
 unfoldable pub offPage : ℕ → ℕ → Clip → Bool
@@ -58,6 +61,14 @@ radiusMost = 1023
 abbrev pub byteRadiusMost : ℕ
 byteRadiusMost = 255
 
+-- the greatest width and height of a triangle
+abbrev pub triangleMost : ℕ
+triangleMost = 127
+
+-- the sides from corner 0 to the others have one slope: the cross products of their spans agree
+unfoldable pub onOneLine : Triangle → Bool
+onOneLine t = same ((t .x1 -ℤ t .x0) *ℤ (t .y2 -ℤ t .y0)) ((t .x2 -ℤ t .x0) *ℤ (t .y1 -ℤ t .y0))
+
 -- 31: a player above 7
 abbrev pub playerMost : ℕ
 playerMost = 7
@@ -66,11 +77,12 @@ abbrev pub offPlayer : ℕ → Bool
 offPlayer p = ltb playerMost p
 
 -- what else is tried of a shape whose radius may be at most m. 9: a line whose ends coincide. 10: a radius of 0. 33: a radius above m.
--- 11: a ring's width of 0 or above the radius
+-- 11: a ring's width of 0 or above the radius. 34: a triangle's width or height above the greatest. 35: its corners on one straight line
 unfoldable pub refusalsOf : ℕ → Shape → List (Bool × ℕ)
 refusalsOf m (line l) = (same (l .x0) (l .x1) && same (l .y0) (l .y1), 9) ∷ []
 refusalsOf m (disc d) = (eqb (d .radius) 0, 10) ∷ (ltb m (d .radius), 33) ∷ []
 refusalsOf m (ring g) = (eqb (g .radius) 0, 10) ∷ (ltb m (g .radius), 33) ∷ (ltb (g .width) 1 || ltb (g .radius) (g .width), 11) ∷ []
+refusalsOf m (triangle t) = (ltb triangleMost (width t) || ltb triangleMost (height t), 34) ∷ (onOneLine t, 35) ∷ []
 
 -- the basis of version v and a page of w by h
 abbrev pub basisBy : ℕ → ℕ → ℕ → Basis
@@ -104,6 +116,7 @@ abbrev pub radiusRoom : Shape → ℕ
 radiusRoom (line l) = radiusMost
 radiusRoom (disc d) = circleRoom (d .big)
 radiusRoom (ring g) = circleRoom (g .big)
+radiusRoom (triangle t) = radiusMost
 
 unfoldable pub recordRefusal : Basis → Record → ℕ
 recordRefusal b end = 0

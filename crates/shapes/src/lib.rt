@@ -1,8 +1,10 @@
 // The shapes, the settings and the records of a drawing list, and the limits of each.
 use numbers::OFFSET_MOST;
 ghost use mathlib.Core.Path.{_≡_};
+ghost use Prim.Native.Nat.{_≤_};
+ghost use Rattle.numbers.specs.inner.Offset.{offsetMost};
 ghost use Rattle.shapes.specs.Limits.{sizeRefusal, basisRefusal, clipRefusal, playerRefusal, refusalWithin, shapeRefusal, circleRoom, radiusRoom, recordRefusal};
-ghost use Rattle.shapes.specs.inner.Offsets.{pointOf, endsOf};
+ghost use Rattle.shapes.specs.inner.Offsets.{pointOf, endsOf, cornersOf, greatestOf, leastOf, spreadOf, farthest, straight};
 
 // The latest version of the format.
 pub const VERSION_MOST: u16 = 2;
@@ -11,6 +13,9 @@ pub const VERSION_MOST: u16 = 2;
 pub const RADIUS_MOST: u16 = 1023;
 
 const BYTE_RADIUS_MOST: u16 = 255;
+
+// The greatest width and height of a triangle.
+pub const TRIANGLE_MOST: u64 = 127;
 
 // How many players there are.
 pub const PLAYERS: usize = 8;
@@ -42,10 +47,20 @@ pub struct Ring {
     pub big: bool,
 }
 
+pub struct Triangle {
+    pub x0: i16,
+    pub y0: i16,
+    pub x1: i16,
+    pub y1: i16,
+    pub x2: i16,
+    pub y2: i16,
+}
+
 pub enum Shape {
     Line(Line),
     Disc(Disc),
     Ring(Ring),
+    Triangle(Triangle),
 }
 
 pub struct Clip {
@@ -106,6 +121,49 @@ pub fn ends_of(line: Line) -> Ends
         x1: numbers::offset(line.x1),
         y1: numbers::offset(line.y1),
     }
+}
+
+// The corners of a triangle, their coordinates as offsets.
+pub struct Corners {
+    pub x0: u64,
+    pub y0: u64,
+    pub x1: u64,
+    pub y1: u64,
+    pub x2: u64,
+    pub y2: u64,
+}
+
+pub fn corners_of(triangle: Triangle) -> Corners
+    ensures { λ r. ⌜ r ≡ cornersOf triangle ⌝ }
+{
+    Corners {
+        x0: numbers::offset(triangle.x0),
+        y0: numbers::offset(triangle.y0),
+        x1: numbers::offset(triangle.x1),
+        y1: numbers::offset(triangle.y1),
+        x2: numbers::offset(triangle.x2),
+        y2: numbers::offset(triangle.y2),
+    }
+}
+
+// The greatest and the least of three offsets.
+fn greatest(a: u64, b: u64, c: u64) -> u64
+    ensures { λ r. ⌜ r ≡ greatestOf a b c ⌝ }
+{
+    numbers::greater(numbers::greater(a, b), c)
+}
+
+fn least(a: u64, b: u64, c: u64) -> u64
+    ensures { λ r. ⌜ r ≡ leastOf a b c ⌝ }
+{
+    numbers::lesser(numbers::lesser(a, b), c)
+}
+
+// How far three offsets are apart.
+fn spread(a: u64, b: u64, c: u64) -> u64
+    ensures { λ r. ⌜ r ≡ spreadOf a b c ⌝ }
+{
+    greatest(a, b, c) - least(a, b, c)
 }
 
 // The refusal of W and H, 3, or 0.
@@ -240,7 +298,41 @@ pub fn ring_refusal(ring: Ring, most: u16) -> u8
     0
 }
 
-// The first refusal of a shape whose radius may be at most `most`: 7, 9, 10, 33 or 11, or 0.
+// Whether three corners are on one straight line: both ways round, the products of neighbours add up to the same.
+fn on_one_line(c: Corners) -> bool
+    requires { ⌜ farthest c ≤ offsetMost ⌝ }
+    ensures { λ r. ⌜ r ≡ straight c ⌝ }
+{
+    let one_way = numbers::product(c.x0, c.y1)
+        + numbers::product(c.x1, c.y2)
+        + numbers::product(c.x2, c.y0);
+    let other_way = numbers::product(c.x1, c.y0)
+        + numbers::product(c.x2, c.y1)
+        + numbers::product(c.x0, c.y2);
+    one_way == other_way
+}
+
+// The first refusal of a triangle: 7, 34 or 35, or 0.
+pub fn triangle_refusal(triangle: Triangle) -> u8
+    ensures { λ r. ⌜ r ≡ shapeRefusal (Shape.Triangle triangle) ⌝ }
+{
+    let c = corners_of(triangle);
+    if OFFSET_MOST < numbers::greater(greatest(c.x0, c.x1, c.x2), greatest(c.y0, c.y1, c.y2)) {
+        return 7;
+    }
+    let large = TRIANGLE_MOST
+        < numbers::greater(spread(c.x0, c.x1, c.x2), spread(c.y0, c.y1, c.y2));
+    let line = on_one_line(c);
+    if large {
+        return 34;
+    }
+    if line {
+        return 35;
+    }
+    0
+}
+
+// The first refusal of a shape whose radius may be at most `most`: 7, 9, 10, 33, 11, 34 or 35, or 0.
 pub fn shape_refusal(shape: Shape, most: u16) -> u8
     ensures { λ r. ⌜ r ≡ refusalWithin most shape ⌝ }
 {
@@ -248,6 +340,7 @@ pub fn shape_refusal(shape: Shape, most: u16) -> u8
         Shape::Line(line) => line_refusal(line),
         Shape::Disc(disc) => disc_refusal(disc, most),
         Shape::Ring(ring) => ring_refusal(ring, most),
+        Shape::Triangle(triangle) => triangle_refusal(triangle),
     }
 }
 
@@ -258,7 +351,7 @@ fn circle_room(big: bool) -> u16
     if big { RADIUS_MOST } else { BYTE_RADIUS_MOST }
 }
 
-// The greatest radius of the record of a shape; a line has none that could be too great.
+// The greatest radius of the record of a shape; a line and a triangle have none that could be too great.
 fn radius_room(shape: Shape) -> u16
     ensures { λ r. ⌜ r ≡ radiusRoom shape ⌝ }
 {
@@ -266,10 +359,11 @@ fn radius_room(shape: Shape) -> u16
         Shape::Line(_) => RADIUS_MOST,
         Shape::Disc(disc) => circle_room(disc.big),
         Shape::Ring(ring) => circle_room(ring.big),
+        Shape::Triangle(_) => RADIUS_MOST,
     }
 }
 
-// The first refusal of a record: 7, 8, 9, 10, 33, 11 or 31, or 0.
+// The first refusal of a record: 7, 8, 9, 10, 33, 11, 34, 35 or 31, or 0.
 pub fn record_refusal(basis: Basis, rec: Record) -> u8
     ensures { λ r. ⌜ r ≡ recordRefusal basis rec ⌝ }
 {

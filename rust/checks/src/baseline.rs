@@ -4,10 +4,12 @@
 //! pixel and a division for each blend. A circle works out its heights by the processor's square
 //! root and draws each row of its box: the inside filled, the edges left and right of the centre
 //! from one coverage. Heights are in an array on the stack, a shorter one for the radii of one byte.
+//! A triangle is drawn row by row between the two sides that cross the row (`baseline_triangle`).
 //! In light each blend is a binary search over the middles between neighbouring lights, by cross
 //! products.
 
-use greystroke::{Clip, Disc, Lights, Line, Refusal, Ring, Shape, Size};
+use crate::baseline_triangle::draw_triangle;
+use greystroke::{Clip, Disc, Lights, Line, Refusal, Ring, Shape, Size, Triangle};
 use std::ops::Range;
 
 /// What [`greystroke::draw_shape`] does with lights equal to codes, which need no look at them.
@@ -68,6 +70,7 @@ pub(crate) fn paint<I: Ink>(page: &mut [u8], size: Size, clip: Clip, ink: I, sha
             width,
             ..
         }) => draw_ring(&mut canvas, x, y, radius, radius - width),
+        Shape::Triangle(triangle) => draw_triangle(&mut canvas, triangle),
     }
 }
 
@@ -109,6 +112,10 @@ pub(crate) fn shape_refusal(shape: Shape) -> Option<Refusal> {
             let width = (!lawful).then_some(Refusal::RingWidth);
             (outside(&[r.x, r.y]), radius_refusal(r.radius).or(width))
         }
+        Shape::Triangle(t) => {
+            let corners = [t.x0, t.y0, t.x1, t.y1, t.x2, t.y2];
+            (outside(&corners), triangle_refusal(t))
+        }
     };
     if far {
         Some(Refusal::Coordinate)
@@ -122,6 +129,19 @@ fn radius_refusal(radius: u16) -> Option<Refusal> {
         0 => Some(Refusal::Radius),
         1..=1023 => None,
         _ => Some(Refusal::RadiusTooLarge),
+    }
+}
+
+fn triangle_refusal(t: Triangle) -> Option<Refusal> {
+    let [x0, y0, x1, y1, x2, y2] = [t.x0, t.y0, t.x1, t.y1, t.x2, t.y2].map(i64::from);
+    let width = x0.max(x1).max(x2) - x0.min(x1).min(x2);
+    let height = y0.max(y1).max(y2) - y0.min(y1).min(y2);
+    if width > 127 || height > 127 {
+        Some(Refusal::TriangleSize)
+    } else if (x1 - x0) * (y2 - y0) == (x2 - x0) * (y1 - y0) {
+        Some(Refusal::StraightCorners)
+    } else {
+        None
     }
 }
 
@@ -190,13 +210,13 @@ impl Ink for LightInk<'_> {
 }
 
 /// A page with the clip and the ink in force.
-struct Canvas<'a, I> {
+pub(crate) struct Canvas<'a, I> {
     page: &'a mut [u8],
     width: i64,
-    left: i64,
-    top: i64,
+    pub(crate) left: i64,
+    pub(crate) top: i64,
     right: i64,
-    bottom: i64,
+    pub(crate) bottom: i64,
     ink: I,
 }
 
@@ -213,7 +233,7 @@ impl<I: Ink> Canvas<'_, I> {
     }
 
     /// The bytes of a row from one column to another, both brought into the clip, and the ink.
-    fn stretch(&mut self, y: i64, from: i64, end: i64) -> (&mut [u8], &I) {
+    pub(crate) fn stretch(&mut self, y: i64, from: i64, end: i64) -> (&mut [u8], &I) {
         let from = from.clamp(self.left, self.right);
         let end = end.clamp(from, self.right);
         let row = y * self.width;

@@ -5,7 +5,7 @@
 use crate::baseline::{clip_refusal, page_refusal, paint, shape_refusal, CodeInk, Ink, LightInk};
 use greystroke::{
     Clip, Disc, Header, Lights, Line, ListRefusal, Picture, Record, Refusal, Ring, Setting, Shape,
-    Size, PLAYERS,
+    Size, Triangle, PLAYERS,
 };
 
 const LONGEST_LIST: usize = 65_536;
@@ -127,6 +127,7 @@ fn decode(bytes: &[u8], version: u16) -> Result<(Record, usize), Refusal> {
         7 if version == 2 => 2,
         8 if version == 2 => 7,
         9 if version == 2 => 9,
+        10 if version == 2 => 13,
         _ => return Err(Refusal::UnknownKind),
     };
     let bytes = bytes.get(..length).ok_or(Refusal::CutShort)?;
@@ -162,6 +163,14 @@ fn decode_shape(bytes: &[u8]) -> Shape {
         6 => ring(bytes[5].into(), bytes[6].into(), false),
         8 => disc(word(bytes, 5), true),
         9 => ring(word(bytes, 5), word(bytes, 7), true),
+        10 => Shape::Triangle(Triangle {
+            x0: x,
+            y0: y,
+            x1: signed(bytes, 5),
+            y1: signed(bytes, 7),
+            x2: signed(bytes, 9),
+            y2: signed(bytes, 11),
+        }),
         kind => Shape::Line(Line {
             exact: kind == 3,
             x0: x,

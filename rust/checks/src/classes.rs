@@ -1,6 +1,6 @@
 //! Classes of inputs, and how often a run met each.
 
-use reference::shape::{Line, Shape};
+use reference::shape::{Line, Shape, Triangle};
 use std::collections::BTreeMap;
 
 /// Counts the inputs of each class, so that a test can show what its random inputs reached.
@@ -31,6 +31,7 @@ pub fn kind(shape: &Shape) -> &'static str {
         Shape::Line(_) => "approximate",
         Shape::Disc(_) => "disc",
         Shape::Ring(_) => "ring",
+        Shape::Triangle(_) => "triangle",
     }
 }
 
@@ -73,4 +74,39 @@ pub fn directions() -> Vec<String> {
         }
     }
     directions
+}
+
+/// What the sides of a triangle are like, how large it is, and which way its corners go round.
+pub const TRIANGLES: [&str; 9] = [
+    "with an upright side",
+    "with a level side",
+    "of width 1",
+    "of height 1",
+    "of width 127",
+    "of height 127",
+    "of a small area",
+    "turning one way",
+    "turning the other way",
+];
+
+/// Those of them that a triangle is in.
+pub fn triangle_classes(triangle: &Triangle) -> Vec<String> {
+    let corners = triangle.corners();
+    let [(x0, y0), (x1, y1), (x2, y2)] = corners.map(|(x, y)| (i32::from(x), i32::from(y)));
+    let width = x0.max(x1).max(x2) - x0.min(x1).min(x2);
+    let height = y0.max(y1).max(y2) - y0.min(y1).min(y2);
+    let twice_area = (x1 - x0) * (y2 - y0) - (x2 - x0) * (y1 - y0);
+    let met = [
+        x0 == x1 || x1 == x2 || x2 == x0,
+        y0 == y1 || y1 == y2 || y2 == y0,
+        width == 1,
+        height == 1,
+        width == 127,
+        height == 127,
+        twice_area.abs() < width.max(height),
+        twice_area > 0,
+        twice_area < 0,
+    ];
+    let met = TRIANGLES.into_iter().zip(met).filter(|(_, met)| *met);
+    met.map(|(class, _)| class.to_string()).collect()
 }

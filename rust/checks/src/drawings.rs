@@ -4,9 +4,11 @@
 use crate::lights::{fit_lights, spoil_lights};
 use crate::random::Random;
 use crate::rows::ShapeCall;
-use crate::strokes::{clamped, longest_line, on_circle, push_outside};
+use crate::strokes::{
+    clamped, longest_line, on_circle, push_outside, triangle_between, triangle_from,
+};
 use reference::page::page_length;
-use reference::shape::{Clip, Disc, Line, Ring, Shape};
+use reference::shape::{Clip, Disc, Line, Ring, Shape, Triangle};
 
 const UNLAWFUL_SIDES: [u16; 3] = [0, 1025, u16::MAX];
 /// The reference asks every pixel of the clip, so that a clip is kept small on any page.
@@ -41,6 +43,24 @@ pub fn drawing(random: &mut Random) -> (&'static str, ShapeCall) {
         shape,
     };
     (name, call)
+}
+
+/// A lawful triangle on a page of at most twelve by twelve, under any clip and in fit lights.
+pub fn triangle_drawing(random: &mut Random) -> ShapeCall {
+    let mut side = || random.between(1, 12) as u16;
+    let (width, height) = (side(), side());
+    let clip = clip(random, width, height);
+    let near = point_near(random, &clip);
+    let pixels = page_length(width, height);
+    ShapeCall {
+        page: (0..pixels).map(|_| random.bits() as u8).collect(),
+        width,
+        height,
+        lights: fit_lights(random).1,
+        clip,
+        level: random.bits() as u8,
+        shape: Shape::Triangle(triangle(random, near)),
+    }
 }
 
 pub(crate) fn sides(random: &mut Random) -> (u16, u16) {
@@ -133,10 +153,11 @@ pub(crate) fn point_near(random: &mut Random, clip: &Clip) -> (i64, i64) {
 }
 
 pub(crate) fn shape(random: &mut Random, near: (i64, i64), clip: &Clip) -> Shape {
-    match random.between(0, 11) {
+    match random.between(0, 15) {
         0..=5 => Shape::Line(line(random, near)),
         6 => Shape::Line(line_between(random, near, last_corner(clip))),
         7..=9 => Shape::Disc(disc(random, near)),
+        10..=13 => Shape::Triangle(triangle(random, near)),
         _ => {
             let disc = disc(random, near);
             Shape::Ring(ring(random, disc))
@@ -219,6 +240,35 @@ fn ring(random: &mut Random, disc: Disc) -> Ring {
     }
 }
 
+/// A lawful triangle with a corner at the point or with the point inside it, now and then far off.
+pub fn triangle(random: &mut Random, (x, y): (i64, i64)) -> Triangle {
+    // About a point out of range, as an unlawful page may have, no triangle would be lawful.
+    let near = (x.clamp(-4000, 4000), y.clamp(-4000, 4000));
+    loop {
+        let far = (random.between(-4096, 4095), random.between(-4096, 4095));
+        let triangle = match random.between(0, 11) {
+            0 => triangle_from(random, far),
+            1..=4 => triangle_about(random, near),
+            _ => triangle_from(random, near),
+        };
+        if Shape::Triangle(triangle).first_refusal().is_none() {
+            return triangle;
+        }
+    }
+}
+
+/// A triangle with one corner below a point, or above it, and two on the other side.
+fn triangle_about(random: &mut Random, (x, y): (i64, i64)) -> Triangle {
+    let (reach, down) = (random.pick(&[2, 8, 30, 63]), random.pick(&[1, -1]));
+    let mut step = || random.between(0, reach);
+    let corners = [
+        (x - step(), y - down * step()),
+        (x + step(), y - down * step()),
+        (x + step() - step(), y + down * step()),
+    ];
+    triangle_between(random, corners)
+}
+
 /// Gives the shape a refusal of its kind, or moves it out of range.
 fn spoil_shape(random: &mut Random, shape: &mut Shape) {
     if random.one_in(3) {
@@ -230,5 +280,9 @@ fn spoil_shape(random: &mut Random, shape: &mut Shape) {
         Shape::Disc(disc) => disc.radius = radius,
         Shape::Ring(ring) if random.flip() => ring.radius = radius,
         Shape::Ring(ring) => ring.width = random.pick(&[0, ring.radius + 1, u16::MAX]),
+        Shape::Triangle(t) if random.flip() => {
+            t.x1 = t.x0.saturating_add(random.pick(&[128, 128, 300, -128]));
+        }
+        Shape::Triangle(t) => (t.x2, t.y2) = random.pick(&[(t.x1, t.y1), (t.x0, t.y0)]),
     }
 }

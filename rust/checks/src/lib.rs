@@ -1,7 +1,10 @@
 //! Shared parts of the comparison tests, of the `calls` program and of the benchmark.
 
+pub mod answers;
 pub mod baseline;
 pub mod baseline_list;
+pub mod baseline_page;
+mod baseline_triangle;
 pub mod calls;
 pub mod cases;
 pub mod classes;

@@ -9,7 +9,7 @@ use reference::coverage::Fraction;
 use reference::format::Header;
 use reference::list::Drawn;
 use reference::refusal::Refused;
-use reference::shape::{Basis, Clip, Disc, Line, Record, Ring, Setting, Shape};
+use reference::shape::{Basis, Clip, Disc, Line, Record, Ring, Setting, Shape, Triangle};
 
 pub fn coverage(shape: &Shape, x: i16, y: i16) -> Result<Fraction, Refused> {
     match greystroke::coverage(library_shape(shape), x, y) {
@@ -109,14 +109,14 @@ fn with_place(refused: greystroke::ListRefusal) -> Refused {
 
 /// Calls other than those on a whole list refuse at place 0; `greystroke` panics where the library
 /// tells another.
-fn without_place(refusal: greystroke::Refusal) -> Refused {
+pub(crate) fn without_place(refusal: greystroke::Refusal) -> Refused {
     Refused {
         number: refusal.number(),
         place: 0,
     }
 }
 
-fn library_size(width: u16, height: u16) -> greystroke::Size {
+pub(crate) fn library_size(width: u16, height: u16) -> greystroke::Size {
     greystroke::Size { width, height }
 }
 
@@ -135,7 +135,7 @@ fn reference_basis(basis: greystroke::Basis) -> Basis {
     }
 }
 
-fn library_clip(clip: &Clip) -> greystroke::Clip {
+pub(crate) fn library_clip(clip: &Clip) -> greystroke::Clip {
     let &Clip { x0, y0, x1, y1 } = clip;
     greystroke::Clip { x0, y0, x1, y1 }
 }
@@ -195,6 +195,14 @@ fn reference_shape(shape: greystroke::Shape) -> Shape {
             width: ring.width,
             big: ring.big,
         }),
+        greystroke::Shape::Triangle(triangle) => Shape::Triangle(Triangle {
+            x0: triangle.x0,
+            y0: triangle.y0,
+            x1: triangle.x1,
+            y1: triangle.y1,
+            x2: triangle.x2,
+            y2: triangle.y2,
+        }),
     }
 }
 
@@ -215,7 +223,7 @@ fn library_line(line: &Line) -> greystroke::Line {
     }
 }
 
-fn library_shape(shape: &Shape) -> greystroke::Shape {
+pub(crate) fn library_shape(shape: &Shape) -> greystroke::Shape {
     match *shape {
         Shape::Line(line) => greystroke::Shape::Line(library_line(&line)),
         Shape::Disc(disc) => greystroke::Shape::Disc(greystroke::Disc {
@@ -230,6 +238,14 @@ fn library_shape(shape: &Shape) -> greystroke::Shape {
             radius: ring.radius,
             width: ring.width,
             big: ring.big,
+        }),
+        Shape::Triangle(triangle) => greystroke::Shape::Triangle(greystroke::Triangle {
+            x0: triangle.x0,
+            y0: triangle.y0,
+            x1: triangle.x1,
+            y1: triangle.y1,
+            x2: triangle.x2,
+            y2: triangle.y2,
         }),
     }
 }

@@ -1,7 +1,7 @@
 //! Random headers, records and whole lists, and damage to a list.
 
 use crate::random::Random;
-use crate::strokes::{disc, line, push_outside, ring};
+use crate::strokes::{disc, line, push_outside, ring, triangle};
 use reference::format::{encode_header, encode_record, kind_of, kind_refusal, Header};
 use reference::shape::{Basis, Clip, Record, Setting, Shape};
 
@@ -38,14 +38,15 @@ pub fn lawful_version(random: &mut Random) -> u16 {
 /// Any record, refused in a list of this version and page or not.
 pub fn record(random: &mut Random, basis: Basis) -> Record {
     let Basis { width, height, .. } = basis;
-    let mut shape = match random.between(0, 12) {
+    let mut shape = match random.between(0, 14) {
         0 => return Record::End,
         1 => return Record::Setting(Setting::Level(random.bits() as u8)),
         2 | 3 => return Record::Setting(Setting::Clip(clip(random, width, height))),
         4 | 5 => return Record::Setting(Setting::Player(player(random))),
         6..=8 => Shape::Line(line(random)),
         9 | 10 => Shape::Disc(disc(random)),
-        _ => Shape::Ring(ring(random)),
+        11 | 12 => Shape::Ring(ring(random)),
+        _ => Shape::Triangle(triangle(random)),
     };
     if random.one_in(8) {
         push_outside(random, &mut shape);
@@ -135,7 +136,7 @@ pub fn list(random: &mut Random) -> Vec<u8> {
 pub fn damage(random: &mut Random, list: &mut Vec<u8>) {
     let place = random.between(0, list.len() as i64 - 1) as usize;
     let any = random.bits() as u8;
-    let byte = random.pick(&[0, 1, 2, 4, 7, 8, 9, 10, 16, 0xF0, 0xFF, any]);
+    let byte = random.pick(&[0, 1, 2, 4, 7, 8, 9, 10, 11, 16, 0xF0, 0xFF, any]);
     match random.between(0, 6) {
         0 => list.truncate(place),
         1 => list.push(byte),

@@ -1,7 +1,7 @@
 //! Shapes, clips and records as the tables write them.
 
 use reference::format::Header;
-use reference::shape::{Clip, Disc, Line, Record, Ring, Setting, Shape};
+use reference::shape::{Clip, Disc, Line, Record, Ring, Setting, Shape, Triangle};
 use std::fmt::Display;
 use std::str::FromStr;
 
@@ -42,6 +42,7 @@ pub fn parse_shape(text: &str) -> Shape {
         }
         "disc" | "bigdisc" => parse_disc(fields, kind == "bigdisc"),
         "ring" | "bigring" => parse_ring(fields, kind == "bigring"),
+        "triangle" => Shape::Triangle(triangle_of(numbers(fields))),
         _ => panic!("no shape is called `{kind}`"),
     }
 }
@@ -72,6 +73,18 @@ fn parse_ring(fields: &str, big: bool) -> Shape {
         width: narrow(width),
         big,
     })
+}
+
+/// The triangle of three corners, x before y.
+pub fn triangle_of([x0, y0, x1, y1, x2, y2]: [i16; 6]) -> Triangle {
+    Triangle {
+        x0,
+        y0,
+        x1,
+        y1,
+        x2,
+        y2,
+    }
 }
 
 /// Coordinates are signed and radii are not, and a length is wider than a side, so a mixed row is
@@ -138,6 +151,10 @@ fn show_shape(shape: &Shape) -> String {
                 "{kind} {} {} {} {}",
                 ring.x, ring.y, ring.radius, ring.width
             )
+        }
+        Shape::Triangle(t) => {
+            let (x0, y0, x1, y1, x2, y2) = (t.x0, t.y0, t.x1, t.y1, t.x2, t.y2);
+            format!("triangle {x0} {y0} {x1} {y1} {x2} {y2}")
         }
     }
 }

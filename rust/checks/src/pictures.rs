@@ -1,6 +1,6 @@
 //! Random lists that are accepted and whose shapes meet their page, and pages to draw them on.
 
-use crate::drawings::{clip, point_near, shape, sides, LONGEST_CLIP};
+use crate::drawings::{clip, point_near, shape, sides, triangle, LONGEST_CLIP};
 use crate::listings::{is_refused, lawful_version};
 use crate::random::Random;
 use reference::format::{encode_header, encode_record, Header};
@@ -106,18 +106,18 @@ pub fn small_picture(random: &mut Random) -> Listed {
         if header.version == 2 {
             records.push(Record::Setting(Setting::Player(player(random))));
         }
-        let big = header.version == 2 && random.flip();
-        records.push(Record::Shape(short_shape(random, big)));
+        records.push(Record::Shape(short_shape(random, header.version)));
     }
     listed(header, records)
 }
 
 /// Mostly a line, as only a line is drawn with other than its exact coverage.
-fn short_shape(random: &mut Random, big: bool) -> Shape {
+fn short_shape(random: &mut Random, version: u16) -> Shape {
+    let big = version == 2 && random.flip();
     let mut corner = || random.between(-2, 10) as i16;
     let (x, y, x1, y1) = (corner(), corner(), corner(), corner());
     let radius = random.between(1, 6) as u16;
-    match random.between(0, 7) {
+    match random.between(0, 8) {
         0 => Shape::Disc(Disc { x, y, radius, big }),
         1 => Shape::Ring(Ring {
             x,
@@ -126,6 +126,7 @@ fn short_shape(random: &mut Random, big: bool) -> Shape {
             width: random.between(1, i64::from(radius)) as u16,
             big,
         }),
+        2 if version == 2 => Shape::Triangle(triangle(random, (x.into(), y.into()))),
         _ => Shape::Line(Line {
             exact: random.flip(),
             x0: x,

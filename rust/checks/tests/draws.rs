@@ -3,14 +3,17 @@
 
 use checks::calls::answer;
 use checks::cases::rows;
-use checks::classes::{bytes_class, direction, directions, kind, signed_spans, Tally};
+use checks::classes::{
+    bytes_class, direction, directions, kind, signed_spans, triangle_classes, Tally, TRIANGLES,
+};
 use checks::drawings::drawing;
 use checks::lights::{fit_lights, named, rising_lights, spoil_lights, FIT, UNFIT};
+use checks::notation::triangle_of;
 use checks::random::Random;
 use checks::rows::ShapeCall;
 use checks::{library, reference_page};
 use greystroke::Lights;
-use reference::coverage::{exact_coverage, height, query};
+use reference::coverage::{exact_coverage, height, query, Fraction};
 use reference::lights::lights_refusal;
 use reference::page::{blend, page_length};
 use reference::refusal::Refused;
@@ -24,7 +27,7 @@ type Answer = Result<u64, Refused>;
 
 /// Refusals that a run must meet.
 fn wanted_refusals() -> Vec<String> {
-    let refusals = [3, 21, 32, 8, 7, 9, 10, 33, 11];
+    let refusals = [3, 21, 32, 8, 7, 9, 10, 33, 11, 34, 35];
     let mut wanted: Vec<String> = refusals.map(|n| format!("refused {n}")).into();
     let pairs = [
         (3, 8),
@@ -35,6 +38,9 @@ fn wanted_refusals() -> Vec<String> {
         (8, 9),
         (8, 10),
         (8, 33),
+        (8, 34),
+        (8, 35),
+        (7, 34),
     ];
     let of_lights = [
         (3, 32),
@@ -44,6 +50,8 @@ fn wanted_refusals() -> Vec<String> {
         (32, 9),
         (32, 10),
         (32, 33),
+        (32, 34),
+        (32, 35),
     ];
     let pairs = pairs.into_iter().chain(of_lights);
     wanted.extend(pairs.map(|(first, next)| format!("refused {first} before {next}")));
@@ -57,7 +65,7 @@ fn wanted_refusals() -> Vec<String> {
 fn wanted() -> Vec<String> {
     let mut wanted = wanted_refusals();
     wanted.extend(["empty clip", "empty clip at the last corner"].map(String::from));
-    for kind in ["exact", "approximate", "disc", "ring"] {
+    for kind in ["exact", "approximate", "disc", "ring", "triangle"] {
         let drawn = [
             "touches nothing",
             "touches the clip's one pixel",
@@ -89,7 +97,8 @@ fn wanted() -> Vec<String> {
         let sizes = [(255, false), (255, true), (1023, false), (1023, true)];
         wanted.extend(sizes.map(|(radius, big)| format!("{kind} {}", bytes_class(radius, big))));
     }
-    wanted.push("disc of whole pixels".to_string());
+    wanted.extend(["disc", "triangle"].map(|kind| format!("{kind} of whole pixels")));
+    wanted.extend(TRIANGLES.map(|class| format!("triangle {class}")));
     wanted.extend(["width 1", "width the radius", "a hole"].map(|what| format!("ring of {what}")));
     wanted
 }
@@ -205,12 +214,15 @@ fn shape_classes(call: &ShapeCall) -> Vec<String> {
         Shape::Line(line) => line_classes(call, line),
         Shape::Disc(disc) => {
             let mut classes = radius_classes(disc.radius, disc.big);
-            if any_pixel(call, |n| n == 512) {
-                classes.push("of whole pixels".to_string());
-            }
+            classes.extend(whole_class(call));
             classes
         }
         Shape::Ring(ring) => ring_classes(call, ring),
+        Shape::Triangle(triangle) => {
+            let mut classes = triangle_classes(triangle);
+            classes.extend(whole_class(call));
+            classes
+        }
     }
 }
 
@@ -253,12 +265,13 @@ fn ring_classes(call: &ShapeCall, ring: &Ring) -> Vec<String> {
     classes
 }
 
-/// Whether a pixel of the clip has such a coverage.
-fn any_pixel(call: &ShapeCall, has: impl Fn(u64) -> bool) -> bool {
+/// Whether a pixel of the clip is covered whole.
+fn whole_class(call: &ShapeCall) -> Option<String> {
     let Clip { x0, y0, x1, y1 } = call.clip;
     let pixels = (y0..y1).flat_map(|y| (x0..x1).map(move |x| (x, y)));
-    let mut covers = pixels.map(|(x, y)| exact_coverage(&call.shape, x.into(), y.into()).n);
-    covers.any(has)
+    let mut covers = pixels.map(|(x, y)| exact_coverage(&call.shape, x.into(), y.into()));
+    let whole = covers.any(|Fraction { n, d }| n == d);
+    whole.then(|| "of whole pixels".to_string())
 }
 
 /// The call without its page, which may be long.
@@ -396,7 +409,7 @@ fn stored_rows_agree() {
         let found = answer(&format!("draws {}", row.call));
         assert_eq!(found, row.answer, "{}", row.call);
     }
-    assert_eq!(rows.len(), 539);
+    assert_eq!(rows.len(), 706);
 }
 
 /// A page of one level and one shape on it, under a whole clip.
@@ -632,9 +645,14 @@ fn even_lights_are_as_good_as_codes() {
 /// A pixel that is covered whole has the level, whatever the lights.
 #[test]
 fn a_whole_cover_leaves_the_level() {
-    for (name, radius) in FIT.into_iter().flat_map(|name| [(name, 20), (name, 700)]) {
+    let triangle = Shape::Triangle(triangle_of([-40, -9, 60, -9, 4, 90]));
+    let shapes = [disc(4, 4, 20), disc(4, 4, 700), triangle];
+    for (name, shape) in FIT
+        .into_iter()
+        .flat_map(|name| shapes.map(|shape| (name, shape)))
+    {
         for (background, level) in [(0, 255), (255, 0), (7, 8), (200, 199)] {
-            let mut call = call_of(8, background, named(name), level, disc(4, 4, radius));
+            let mut call = call_of(8, background, named(name), level, shape);
             assert_eq!(library::draw_shape(&mut call), Ok(64));
             assert_eq!(call.page, [level; 64], "{}", describe(&call));
         }

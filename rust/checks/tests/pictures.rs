@@ -8,6 +8,7 @@ use checks::classes::Tally;
 use checks::library;
 use checks::lights::{fit_lights, named, spoil_lights, FIT, UNFIT};
 use checks::listings::{damage, list};
+use checks::notation::triangle_of;
 use checks::pictures::{listed, page_for, picture, picture_of, small_picture, Listed};
 use checks::random::Random;
 use reference::coverage::{chord_cover, height};
@@ -100,7 +101,7 @@ fn kind_class(shape: &Shape) -> String {
 
 /// Every kind that a shape can have.
 fn kinds() -> Vec<String> {
-    let kinds = [3, 4, 5, 6, 8, 9].map(|kind| format!("kind {kind}"));
+    let kinds = [3, 4, 5, 6, 8, 9, 10].map(|kind| format!("kind {kind}"));
     kinds.into()
 }
 
@@ -123,7 +124,7 @@ fn stored_rows_agree() {
         let found = answer(&format!("lists {}", row.call));
         assert_eq!(found, row.answer, "{}", row.call);
     }
-    assert_eq!(rows.len(), 423);
+    assert_eq!(rows.len(), 525);
 }
 
 #[test]
@@ -199,7 +200,7 @@ fn damaged_lists_agree() {
     }
     let header_refusals = [5, 1, 2, 3, 21, 32].map(|n| format!("refused {n}"));
     tally.require(header_refusals.into(), LEAST);
-    let record_refusals = [4, 5, 6, 7, 8, 9, 10, 11, 31, 33];
+    let record_refusals = [4, 5, 6, 7, 8, 9, 10, 11, 31, 33, 34, 35];
     let record_refusals = record_refusals.map(|n| format!("refused {n} further on"));
     tally.require(record_refusals.into(), LEAST);
     tally.require(kinds(), LEAST);
@@ -469,6 +470,11 @@ fn hold_to_bound(name: &str, lights: &[u16], listed: &Listed, tally: &mut Tally)
         }
     }
     assert_eq!(picture.touched, touched);
+    let triangles = accepted
+        .drawings
+        .iter()
+        .filter(|drawing| matches!(drawing.shape, Shape::Triangle(_)));
+    tally.meet(triangles.map(|_| format!("{name}: a triangle")).collect());
 }
 
 #[test]
@@ -489,6 +495,7 @@ fn every_byte_is_within_the_bound() {
         "2 touches, 2 approximate",
     ];
     tally.require(classes.map(|class| format!("codes: {class}")).into(), LEAST);
+    tally.require(vec!["codes: a triangle".to_string()], LEAST);
 }
 
 #[test]
@@ -501,7 +508,11 @@ fn every_byte_is_within_the_bound_in_any_lights() {
         hold_to_bound(name, &lights, &listed, &mut tally);
     }
     for name in FIT.into_iter().chain(["random"]) {
-        let classes = ["1 touches, 0 approximate", "2 touches, 1 approximate"];
+        let classes = [
+            "1 touches, 0 approximate",
+            "2 touches, 1 approximate",
+            "a triangle",
+        ];
         let classes = classes.map(|class| format!("{name}: {class}"));
         tally.require(classes.into(), LEAST);
     }
@@ -512,24 +523,34 @@ fn every_byte_is_within_the_bound_in_any_lights() {
     }
 }
 
-/// One pixel of this background, and a line at this level from its first corner to another.
-fn one_pixel(background: u8, level: u8, exact: bool, (x1, y1): (i16, i16)) -> Listed {
+/// One pixel of this background, and a shape at this level.
+fn one_pixel(background: u8, level: u8, shape: Shape) -> Listed {
     let header = Header {
         version: 2,
         width: 1,
         height: 1,
         background,
     };
+    let level = Record::Setting(Setting::Level(level));
+    listed(header, vec![level, Record::Shape(shape)])
+}
+
+/// A line from the pixel's first corner to another.
+fn line_to(exact: bool, (x1, y1): (i16, i16)) -> Shape {
     let (x0, y0) = (0, 0);
-    let line = Shape::Line(Line {
+    Shape::Line(Line {
         exact,
         x0,
         y0,
         x1,
         y1,
-    });
-    let level = Record::Setting(Setting::Level(level));
-    listed(header, vec![level, Record::Shape(line)])
+    })
+}
+
+/// A line along the pixel's lower side, and the triangle on one side of its diagonal.
+fn halves() -> [Shape; 2] {
+    let triangle = triangle_of([0, 0, 1, 0, 0, 1]);
+    [line_to(true, (1, 0)), Shape::Triangle(triangle)]
 }
 
 /// The byte of such a pixel, the exact blend and the bound.
@@ -552,7 +573,7 @@ fn fraction(numerator: u64, denominator: u64) -> BigFraction {
 #[test]
 fn a_diagonal_reaches_the_bound() {
     let lights = codes();
-    let (byte, exact, bound) = blended(&lights, &one_pixel(255, 0, false, (1, 1)));
+    let (byte, exact, bound) = blended(&lights, &one_pixel(255, 0, line_to(false, (1, 1))));
     assert_eq!(byte, 128);
     assert!(within(&lights, 128, &exact, &bound));
     assert!(!within(&lights, 129, &exact, &bound));
@@ -564,9 +585,12 @@ fn a_diagonal_reaches_the_bound() {
 #[test]
 fn a_tie_in_the_widest_gap_reaches_the_bound() {
     let gaps = [("gap", 199), ("first", 0), ("last", 254), ("wide", 9)];
-    for (name, before) in gaps {
+    let shapes = gaps
+        .iter()
+        .flat_map(|gap| halves().map(|shape| (*gap, shape)));
+    for ((name, before), shape) in shapes {
         let (lights, after) = (named(name), before + 1);
-        let (byte, exact, bound) = blended(&lights, &one_pixel(before, after, true, (1, 0)));
+        let (byte, exact, bound) = blended(&lights, &one_pixel(before, after, shape));
         assert_eq!(byte, after, "{name}");
         assert!(within(&lights, byte, &exact, &bound), "{name}");
         let gap = widest_gap(&lights);
@@ -591,7 +615,7 @@ fn unfit_lights_are_refused_before_the_records() {
             assert_eq!(drawn_in(&lights, &list, &page).0, refused(32));
             let no_end = &list[..list.len() - 1];
             assert_eq!(drawn_in(&lights, no_end, &page).0, refused(32));
-            let unknown = [&list[..10], &[10], &list[10..]].concat();
+            let unknown = [&list[..10], &[11], &list[10..]].concat();
             assert_eq!(drawn_in(&lights, &unknown, &page).0, refused(32));
             let pixels = page_length(header.width, header.height);
             assert_eq!(drawn_in(&lights, &list, &page[..pixels - 1]).0, refused(21));

@@ -1,8 +1,11 @@
 //! Coverage queries: the library against the reference on random shapes, and on the stored rows.
 
+use checks::answers::{agree, texts_agree};
 use checks::calls::answer;
 use checks::cases::rows;
-use checks::classes::{bytes_class, direction, directions, kind, signed_spans, Tally};
+use checks::classes::{
+    bytes_class, direction, directions, kind, signed_spans, triangle_classes, Tally, TRIANGLES,
+};
 use checks::library;
 use checks::random::Random;
 use checks::strokes::shape_and_pixel;
@@ -18,8 +21,18 @@ type Answer = Result<Fraction, Refused>;
 
 /// Classes that a run must meet. Lines meet theirs once exact and once approximate.
 fn wanted() -> Vec<String> {
-    let mut wanted: Vec<String> = [7, 9, 10, 33, 11].map(|n| format!("refused {n}")).into();
-    let refused = ["line end", "pixel", "centre", "pixel before equal ends"];
+    let mut wanted: Vec<String> = [7, 9, 10, 33, 11, 34, 35]
+        .map(|n| format!("refused {n}"))
+        .into();
+    let refused = [
+        "line end",
+        "centre",
+        "corner",
+        "pixel",
+        "pixel before 9",
+        "pixel before 34",
+        "pixel before 35",
+    ];
     wanted.extend(refused.map(|what| format!("refused 7: {what}")));
     let values = [0, 1, 2, 254, 255, 256, 257, 1022, 1023, 1024, 65535];
     wanted.extend(values.map(|value| format!("disc of radius {value}")));
@@ -33,9 +46,11 @@ fn wanted() -> Vec<String> {
         }
     }
     wanted.extend([10, 33].map(|n| format!("refused {n} before 11")));
-    for kind in ["exact", "approximate", "disc", "ring"] {
+    for kind in ["exact", "approximate", "disc", "ring", "triangle"] {
         wanted.extend(["uncovered", "covered", "at the last pixel"].map(|c| format!("{kind} {c}")));
     }
+    let triangles = TRIANGLES.into_iter().chain(["whole", "in part"]);
+    wanted.extend(triangles.map(|class| format!("triangle {class}")));
     for kind in ["exact", "approximate"] {
         let classes = ["l = 1", "two rows", "three rows", "t = 0", "longest span"];
         wanted.extend(classes.map(|class| format!("{kind} {class}")));
@@ -54,7 +69,10 @@ fn classes(shape: &Shape, x: i16, y: i16, answer: &Answer) -> Vec<String> {
             if cover.n == cover.d {
                 classes.push("whole".to_string());
             } else if cover.n > 0 {
-                classes.extend(bytes_of(shape).map(|class| format!("{class}, in part")));
+                classes.push(match bytes_of(shape) {
+                    Some(class) => format!("{class}, in part"),
+                    None => "in part".to_string(),
+                });
             }
             if [x, y].iter().any(|c| [-4096, 4095].contains(c)) && cover.n > 0 {
                 classes.push("at the last pixel".to_string());
@@ -69,12 +87,15 @@ fn refusal_classes(shape: &Shape, x: i16, y: i16, refusal: &Refused) -> Vec<Stri
     let mut classes = vec![format!("refused {}", refusal.number)];
     if refusal.number == 7 {
         let pixel = [x, y].iter().any(|c| !(-4096..=4095).contains(c));
-        let equal = shape.form_refusal().is_some() && matches!(shape, Shape::Line(_));
-        let what = match shape {
-            _ if shape.coordinate_refusal().is_none() && equal => "pixel before equal ends",
-            _ if shape.coordinate_refusal().is_none() && pixel => "pixel",
-            Shape::Line(_) => "line end",
-            _ => "centre",
+        let form = shape.form_refusal().map(|refusal| refusal.number());
+        let what = match (shape, form) {
+            (_, Some(next)) if shape.coordinate_refusal().is_none() => {
+                format!("pixel before {next}")
+            }
+            _ if shape.coordinate_refusal().is_none() && pixel => "pixel".to_string(),
+            (Shape::Line(_), _) => "line end".to_string(),
+            (Shape::Triangle(_), _) => "corner".to_string(),
+            _ => "centre".to_string(),
         };
         classes.push(format!("refused 7: {what}"));
     } else {
@@ -93,13 +114,14 @@ fn refusal_classes(shape: &Shape, x: i16, y: i16, refusal: &Refused) -> Vec<Stri
 fn lawful_classes(shape: &Shape, x: i16, y: i16) -> Vec<String> {
     match shape {
         Shape::Line(line) => line_classes(line, x, y),
+        Shape::Triangle(triangle) => triangle_classes(triangle),
         _ => circle_class(shape).into_iter().collect(),
     }
 }
 
 fn circle_class(shape: &Shape) -> Option<String> {
     match shape {
-        Shape::Line(_) => None,
+        Shape::Line(_) | Shape::Triangle(_) => None,
         Shape::Disc(disc) => Some(format!("of radius {}", disc.radius)),
         Shape::Ring(ring) if ring.width == ring.radius => Some("of width the radius".to_string()),
         Shape::Ring(ring) if ring.width.checked_sub(1) == Some(ring.radius) => {
@@ -111,7 +133,7 @@ fn circle_class(shape: &Shape) -> Option<String> {
 
 fn bytes_of(shape: &Shape) -> Option<String> {
     match shape {
-        Shape::Line(_) => None,
+        Shape::Line(_) | Shape::Triangle(_) => None,
         Shape::Disc(disc) => Some(bytes_class(disc.radius, disc.big)),
         Shape::Ring(ring) => Some(bytes_class(ring.radius, ring.big)),
     }
@@ -151,7 +173,8 @@ fn random_queries_agree() {
         let (shape, x, y) = shape_and_pixel(&mut random);
         let expected = query(&shape, x, y);
         let found = library::coverage(&shape, x, y);
-        assert_eq!(found, expected, "{shape:?} at {x} {y}");
+        let told = format!("{shape:?} at {x} {y}: {found:?} for {expected:?}");
+        assert!(agree(&shape, &found, &expected), "{told}");
         tally.meet(classes(&shape, x, y, &expected));
     }
     tally.require(wanted(), LEAST);
@@ -162,7 +185,8 @@ fn stored_rows_agree() {
     let rows = rows("queries");
     for row in &rows {
         let found = answer(&format!("queries {}", row.call));
-        assert_eq!(found, row.answer, "{}", row.call);
+        let told = format!("{}: {found} for {}", row.call, row.answer);
+        assert!(texts_agree(&row.call, &found, &row.answer), "{told}");
     }
-    assert_eq!(rows.len(), 458);
+    assert_eq!(rows.len(), 550);
 }

@@ -6,7 +6,7 @@ use checks::cases::rows;
 use checks::classes::Tally;
 use checks::library;
 use checks::listings::{header, lawful_record, list, record};
-use checks::notation::Writable;
+use checks::notation::{triangle_of, Writable};
 use checks::random::Random;
 use checks::reference_writer::write;
 use checks::rows::Writing;
@@ -15,7 +15,7 @@ use reference::lights::codes;
 use reference::list::check;
 use reference::shape::{Basis, Clip, Disc, Record, Ring, Setting, Shape};
 
-const WRITES: u32 = 200_000;
+const WRITES: u32 = 240_000;
 const LISTS: u32 = 4_000;
 const LARGEST_PAGE: usize = 1024 * 1024;
 /// Every refusal, and every accepted kind, has to come up at least this often.
@@ -100,6 +100,7 @@ fn wanted() -> Vec<String> {
         (7, &[4, 31]),
         (8, &[4, 7, 10, 33]),
         (9, &[4, 7, 10, 33, 11]),
+        (10, &[4, 7, 34, 35]),
     ] {
         want(&format!("kind {kind}"), numbers);
     }
@@ -113,7 +114,7 @@ fn stored_rows_agree() {
         let found = answer(&format!("writes {}", row.call));
         assert_eq!(found.trim(), row.answer, "{}", row.call);
     }
-    assert_eq!(rows.len(), 351);
+    assert_eq!(rows.len(), 426);
 }
 
 #[test]
@@ -268,6 +269,66 @@ fn each_kind_of_circle_comes_back_as_its_own_bytes() {
     }
 }
 
+fn triangle(corners: [i16; 6]) -> Record {
+    Record::Shape(Shape::Triangle(triangle_of(corners)))
+}
+
+/// Takes the faults away one by one: 2, 3, 4, 7, 34, 35, 22.
+#[test]
+fn refusals_of_a_triangle_come_in_their_order() {
+    let no_room = LONGEST_LIST;
+    for (version, width, corners, place, outcome) in [
+        (3, 0, [4096, 0, 0, 0, 1, 0], no_room, Err(2)),
+        (1, 0, [4096, 0, 0, 0, 1, 0], no_room, Err(3)),
+        (1, 20, [4096, 0, 0, 0, 1, 0], no_room, Err(4)),
+        (2, 20, [4096, 0, 0, 0, 1, 0], no_room, Err(7)),
+        (2, 20, [4095, 0, 0, 0, 1, 0], no_room, Err(34)),
+        (2, 20, [127, 0, 0, 0, 1, 0], no_room, Err(35)),
+        (2, 20, [127, 0, 0, 0, 1, 127], no_room, Err(22)),
+        (2, 20, [127, 0, 0, 0, 1, 127], HEADER_LENGTH, Ok(())),
+    ] {
+        let mut state = past_the_header(version, width);
+        state.list.resize(HEADER_LENGTH + 13, 0xAA);
+        state.place = place;
+        let outcome_found = written(&mut state, &Writable::Record(triangle(corners)));
+        assert_eq!(outcome_found, outcome, "{corners:?}");
+    }
+}
+
+/// Thirteen bytes a record, and each order of the corners comes back as it is.
+#[test]
+fn each_order_of_corners_comes_back_as_its_own_bytes() {
+    let header = Header {
+        version: 2,
+        width: 20,
+        height: 16,
+        background: 9,
+    };
+    let (a, b, c) = ([-4096, 4095], [-3969, 4094], [-4000, 3968]);
+    let mut list = encode_header(&header);
+    for order in [
+        [a, b, c],
+        [a, c, b],
+        [b, a, c],
+        [b, c, a],
+        [c, a, b],
+        [c, b, a],
+    ] {
+        let numbers = order.as_flattened();
+        let mut bytes = vec![10];
+        bytes.extend(numbers.iter().flat_map(|number: &i16| number.to_le_bytes()));
+        assert_eq!(bytes.len(), 13);
+        let corners = numbers.try_into().expect("six numbers");
+        let (read, rest) = library::read_record(&bytes, header.basis());
+        assert_eq!((read, rest), (Ok(triangle(corners)), &[][..]));
+        list.extend(bytes);
+    }
+    list.push(0);
+    let checked = library::check_list(&list, LARGEST_PAGE, &codes());
+    assert_eq!(checked, Ok(header));
+    assert_eq!(written_again(&list, header), list);
+}
+
 /// What a header says of itself is tried, not what the writer holds; of a record it is the other
 /// way round.
 #[test]
@@ -347,7 +408,7 @@ fn accepted_lists_written_again_are_their_own_bytes() {
     }
     let versions = ["version 1", "version 2"].map(String::from);
     tally.require(versions.into(), LEAST);
-    let kinds = [3, 4, 5, 6, 8, 9].map(|kind| format!("kind {kind}"));
+    let kinds = [3, 4, 5, 6, 8, 9, 10].map(|kind| format!("kind {kind}"));
     tally.require(kinds.into(), LEAST);
 }
 

@@ -3,7 +3,7 @@
 //! Each answer begins with the refusal, 0 for none, and its place. After a refusal the further
 //! fields are 0, but for those of [`WriteAnswer`].
 
-use crate::{Basis, Clip, Disc, Line, Ring, Shape, PLAYERS};
+use crate::{Basis, Clip, Disc, Line, Ring, Shape, Triangle, PLAYERS};
 
 /// A shape: its kind byte in a list, and its numbers in the order of the record's fields.
 #[repr(C)]
@@ -33,17 +33,20 @@ pub struct GivenBasis {
 
 impl From<Shape> for GivenShape {
     fn from(shape: Shape) -> GivenShape {
-        let (kind, [a, b, c, d]) = match shape {
+        let (kind, numbers) = match shape {
             Shape::Line(Line {
                 exact,
                 x0,
                 y0,
                 x1,
                 y1,
-            }) => (if exact { 3 } else { 4 }, [x0, y0, x1, y1].map(i32::from)),
+            }) => (
+                if exact { 3 } else { 4 },
+                [x0, y0, x1, y1, 0, 0].map(i32::from),
+            ),
             Shape::Disc(Disc { x, y, radius, big }) => (
                 if big { 8 } else { 5 },
-                [x.into(), y.into(), radius.into(), 0],
+                [x.into(), y.into(), radius.into(), 0, 0, 0],
             ),
             Shape::Ring(Ring {
                 x,
@@ -53,13 +56,18 @@ impl From<Shape> for GivenShape {
                 big,
             }) => (
                 if big { 9 } else { 6 },
-                [x.into(), y.into(), radius.into(), width.into()],
+                [x.into(), y.into(), radius.into(), width.into(), 0, 0],
             ),
+            Shape::Triangle(Triangle {
+                x0,
+                y0,
+                x1,
+                y1,
+                x2,
+                y2,
+            }) => (10, [x0, y0, x1, y1, x2, y2].map(i32::from)),
         };
-        GivenShape {
-            kind,
-            numbers: [a, b, c, d, 0, 0],
-        }
+        GivenShape { kind, numbers }
     }
 }
 

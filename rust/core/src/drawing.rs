@@ -36,8 +36,9 @@ impl Clip {
 /// # Errors
 ///
 /// The first that applies of [`Refusal::PageSize`], [`Refusal::PageTooShort`], [`Refusal::Clip`],
-/// [`Refusal::Coordinate`], [`Refusal::EqualEnds`], [`Refusal::Radius`], [`Refusal::RadiusTooLarge`]
-/// and [`Refusal::RingWidth`]. The page is then as it was.
+/// [`Refusal::Coordinate`], [`Refusal::EqualEnds`], [`Refusal::Radius`],
+/// [`Refusal::RadiusTooLarge`], [`Refusal::RingWidth`], [`Refusal::TriangleSize`] and
+/// [`Refusal::StraightCorners`]. The page is then as it was.
 ///
 /// ```
 /// use greystroke::{draw_shape, Clip, Lights, Line, Refusal, Shape, Size};

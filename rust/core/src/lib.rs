@@ -1,4 +1,4 @@
-//! Lines, discs and rings on a grey page, drawn and measured by the proved library.
+//! Lines, discs, rings and triangles on a grey page, drawn and measured by the proved library.
 //!
 //! A shape is given in lattice corners from −4096 to 4095; pixel (x, y) is the square between
 //! the corners (x, y) and (x + 1, y + 1). [`draw_shape`] blends a shape into a lent page, one byte
@@ -42,4 +42,4 @@ pub use list::{
 };
 pub use picture::{draw_list, Picture, PLAYERS};
 pub use refusal::Refusal;
-pub use shape::{Disc, Line, Ring, Shape};
+pub use shape::{Disc, Line, Ring, Shape, Triangle};

@@ -5,12 +5,12 @@ use crate::boundary::{
     greystroke_write_level, greystroke_write_player, greystroke_write_shape, GivenBasis,
     ReadAnswer, WriteAnswer,
 };
-use crate::{raw, Clip, Disc, Lights, Line, Refusal, Ring, Shape, Size};
+use crate::{raw, Clip, Disc, Lights, Line, Refusal, Ring, Shape, Size, Triangle};
 use std::error::Error;
 use std::fmt::{self, Debug, Display, Formatter};
 
 /// The version to write: it has every kind of record. Lists of version 1, which have no
-/// [`Setting::Player`] and no big disc or ring, are read and written too.
+/// [`Setting::Player`], no big disc or ring and no triangle, are read and written too.
 pub const LATEST_VERSION: u16 = 2;
 
 /// What records are read and written against: the version of their list, and the size of its page.
@@ -78,8 +78,9 @@ impl Error for ListRefusal {}
 /// The first that applies of [`Refusal::WrongVersion`], [`Refusal::PageSize`],
 /// [`Refusal::CutShort`] where there is no byte, [`Refusal::UnknownKind`], [`Refusal::CutShort`],
 /// and then what the record itself earns of [`Refusal::Coordinate`], [`Refusal::Clip`],
-/// [`Refusal::EqualEnds`], [`Refusal::Radius`], [`Refusal::RadiusTooLarge`], [`Refusal::RingWidth`]
-/// and [`Refusal::Player`].
+/// [`Refusal::EqualEnds`], [`Refusal::Radius`], [`Refusal::RadiusTooLarge`],
+/// [`Refusal::RingWidth`], [`Refusal::Player`], [`Refusal::TriangleSize`] and
+/// [`Refusal::StraightCorners`].
 ///
 /// ```
 /// use greystroke::{read_record, Basis, Disc, Record, Refusal, Setting, Shape, Size};
@@ -192,8 +193,9 @@ impl<'a> Writer<'a> {
     /// The first that applies of [`Refusal::WrongVersion`] and [`Refusal::PageSize`] of the basis
     /// held, [`Refusal::UnknownKind`], what the record itself earns of [`Refusal::Coordinate`],
     /// [`Refusal::Clip`], [`Refusal::EqualEnds`], [`Refusal::Radius`], [`Refusal::RadiusTooLarge`]
-    /// (also of a radius above 255 that is not `big`), [`Refusal::RingWidth`] and
-    /// [`Refusal::Player`], and [`Refusal::NoRoom`]. Nothing is changed then.
+    /// (also of a radius above 255 that is not `big`), [`Refusal::RingWidth`], [`Refusal::Player`],
+    /// [`Refusal::TriangleSize`] and [`Refusal::StraightCorners`], and [`Refusal::NoRoom`]. Nothing
+    /// is changed then.
     pub fn write_record(&mut self, record: Record) -> Result<(), Refusal> {
         let (list, length) = (self.list.as_mut_ptr(), self.list.len());
         let (place, basis) = (self.place, self.basis.into());
@@ -283,7 +285,7 @@ fn record_of(answer: &ReadAnswer) -> Record {
 }
 
 fn shape_of(answer: &ReadAnswer) -> Shape {
-    let [a, b, c, d, ..] = answer.numbers;
+    let [a, b, c, d, e, f] = answer.numbers;
     match answer.kind {
         kind @ (3 | 4) => Shape::Line(Line {
             exact: kind == 3,
@@ -304,6 +306,14 @@ fn shape_of(answer: &ReadAnswer) -> Shape {
             radius: narrow(c),
             width: narrow(d),
             big: kind == 9,
+        }),
+        10 => Shape::Triangle(Triangle {
+            x0: narrow(a),
+            y0: narrow(b),
+            x1: narrow(c),
+            y1: narrow(d),
+            x2: narrow(e),
+            y2: narrow(f),
         }),
         kind => panic!("the library read a record of kind {kind}"),
     }

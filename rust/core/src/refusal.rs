@@ -41,10 +41,14 @@ pub enum Refusal {
     Lights = 32,
     /// A radius is above 1023, or above 255 in a record that has one byte for it.
     RadiusTooLarge = 33,
+    /// A triangle is more than 127 wide or more than 127 high.
+    TriangleSize = 34,
+    /// The corners of a triangle are on one straight line.
+    StraightCorners = 35,
 }
 
 impl Refusal {
-    const ALL: [Refusal; 17] = [
+    const ALL: [Refusal; 19] = [
         Refusal::WrongMark,
         Refusal::WrongVersion,
         Refusal::PageSize,
@@ -62,6 +66,8 @@ impl Refusal {
         Refusal::Player,
         Refusal::Lights,
         Refusal::RadiusTooLarge,
+        Refusal::TriangleSize,
+        Refusal::StraightCorners,
     ];
 
     pub fn number(self) -> u64 {
@@ -90,6 +96,8 @@ impl Refusal {
             Refusal::RadiusTooLarge => {
                 "the radius is above 1,023, or above 255 in a record with one byte for it"
             }
+            Refusal::TriangleSize => "the width or height of the triangle is above 127",
+            Refusal::StraightCorners => "the corners of the triangle are on one straight line",
         }
     }
 

@@ -34,10 +34,23 @@ pub struct Ring {
     pub big: bool,
 }
 
-/// Any of the three.
+/// A filled triangle between three corners that are not on one straight line, at most 127 wide and
+/// at most 127 high. Their order does not matter to what it covers; a record keeps it.
+#[derive(Clone, Copy, Debug, PartialEq, Eq)]
+pub struct Triangle {
+    pub x0: i16,
+    pub y0: i16,
+    pub x1: i16,
+    pub y1: i16,
+    pub x2: i16,
+    pub y2: i16,
+}
+
+/// Any of the four.
 #[derive(Clone, Copy, Debug, PartialEq, Eq)]
 pub enum Shape {
     Line(Line),
     Disc(Disc),
     Ring(Ring),
+    Triangle(Triangle),
 }

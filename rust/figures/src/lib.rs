@@ -8,6 +8,7 @@ mod font;
 mod frame;
 mod pages;
 mod png;
+mod sides;
 
 use std::path::{Path, PathBuf};
 use std::{fs, io};
@@ -22,6 +23,7 @@ pub fn pictures() -> io::Result<Vec<(PathBuf, Vec<u8>)>> {
     let mut pictures = vec![
         (root.join("docs/frame.png"), frame::picture()),
         (root.join("docs/chords.png"), chords::picture()),
+        (root.join("docs/sides.png"), sides::picture()),
     ];
     for entry in fs::read_dir(root.join("examples"))? {
         let file = entry?.path();

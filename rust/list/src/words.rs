@@ -1,13 +1,15 @@
 //! The words of a line, and what they stand for.
 
-use greystroke::{Clip, Disc, Header, Line, Record, Ring, Setting, Shape, Size, LATEST_VERSION};
+use greystroke::{
+    Clip, Disc, Header, Line, Record, Ring, Setting, Shape, Size, Triangle, LATEST_VERSION,
+};
 use std::str::FromStr;
 
 // Words in capitals stand for numbers; the others stand as they are.
 pub const PAGE: &str = "page W H BACKGROUND";
 const PAGE_OF_VERSION: &str = "page W H BACKGROUND version VERSION";
-pub const RECORD: &str =
-    "a record (clip, level, player, exact, approximate, disc, ring, bigdisc, bigring or end)";
+pub const RECORD: &str = "a record (clip, level, player, exact, approximate, disc, ring, \
+    bigdisc, bigring, triangle or end)";
 const CLIP: &str = "clip X Y X Y";
 const LEVEL: &str = "level LEVEL";
 const PLAYER: &str = "player PLAYER";
@@ -17,6 +19,7 @@ const DISC: &str = "disc X Y RADIUS";
 const RING: &str = "ring X Y RADIUS WIDTH";
 const BIG_DISC: &str = "bigdisc X Y RADIUS";
 const BIG_RING: &str = "bigring X Y RADIUS WIDTH";
+const TRIANGLE: &str = "triangle X Y X Y X Y";
 const END: &str = "end";
 
 /// What a line should have been, where it is something else.
@@ -60,6 +63,7 @@ pub fn record_of(words: &[&str]) -> Result<Record, Unexpected> {
         Some("ring") => ring_of(words, RING, false),
         Some("bigdisc") => disc_of(words, BIG_DISC, true),
         Some("bigring") => ring_of(words, BIG_RING, true),
+        Some("triangle") => triangle_of(words),
         _ => Err(unexpected(RECORD)),
     }
 }
@@ -103,6 +107,18 @@ fn ring_of(words: &[&str], form: &'static str, big: bool) -> Result<Record, Unex
         radius: fields.next()?,
         width: fields.next()?,
         big,
+    })))
+}
+
+fn triangle_of(words: &[&str]) -> Result<Record, Unexpected> {
+    let mut fields = Fields::of(words, TRIANGLE)?;
+    Ok(Record::Shape(Shape::Triangle(Triangle {
+        x0: fields.next()?,
+        y0: fields.next()?,
+        x1: fields.next()?,
+        y1: fields.next()?,
+        x2: fields.next()?,
+        y2: fields.next()?,
     })))
 }
 
@@ -176,6 +192,7 @@ pub fn record_words(record: Record) -> String {
         Record::Shape(Shape::Line(line)) => line_words(line),
         Record::Shape(Shape::Disc(disc)) => disc_words(disc),
         Record::Shape(Shape::Ring(ring)) => ring_words(ring),
+        Record::Shape(Shape::Triangle(triangle)) => triangle_words(triangle),
     }
 }
 
@@ -195,4 +212,16 @@ fn ring_words(ring: Ring) -> String {
         "{kind} {} {} {} {}",
         ring.x, ring.y, ring.radius, ring.width
     )
+}
+
+fn triangle_words(triangle: Triangle) -> String {
+    let Triangle {
+        x0,
+        y0,
+        x1,
+        y1,
+        x2,
+        y2,
+    } = triangle;
+    format!("triangle {x0} {y0} {x1} {y1} {x2} {y2}")
 }

@@ -23,10 +23,11 @@ ring -1 0 255 255            # at 45
 player 7                     # at 52
 bigdisc 4095 -4096 1023      # at 54
 bigring -1 0 255 255         # at 61
-end                          # at 70
+triangle 7 -2 -120 9 0 125   # at 70
+end                          # at 83
 ";
 
-/// The same in version 1, which has no player and no big disc or ring.
+/// The same in version 1, which has no player, no big disc or ring and no triangle.
 const EACH_KIND_OF_VERSION_1: &str = "\
 page 20 16 9 version 1       # at 0
 clip 3 16 20 16              # at 10
@@ -43,7 +44,7 @@ fn examples() -> Vec<PathBuf> {
     let files = fs::read_dir(folder).expect("the examples are there");
     let mut lists: Vec<PathBuf> = files.map(|file| file.unwrap().path()).collect();
     lists.retain(|file| file.extension().is_some_and(|ending| ending == "list"));
-    assert!(lists.len() >= 4, "too few examples: {lists:?}");
+    assert!(lists.len() >= 5, "too few examples: {lists:?}");
     lists
 }
 
@@ -113,13 +114,15 @@ fn wrong(text: &str) -> String {
 #[test]
 fn each_kind_of_record_has_its_words() {
     let list = make(EACH_KIND.as_bytes()).unwrap();
-    assert_eq!(list.len(), 71);
+    assert_eq!(list.len(), 84);
     assert_eq!(list[10..19], [1, 3, 0, 16, 0, 20, 0, 16, 0]);
     assert_eq!(list[30..39], [4, 7, 0, 0xFE, 0xFF, 0, 0xF0, 0xFF, 0x0F]);
     assert_eq!(list[45..52], [6, 0xFF, 0xFF, 0, 0, 255, 255]);
     assert_eq!(list[52..54], [7, 7]);
     assert_eq!(list[54..61], [8, 0xFF, 0x0F, 0, 0xF0, 0xFF, 3]);
     assert_eq!(list[61..70], [9, 0xFF, 0xFF, 0, 0, 255, 0, 255, 0]);
+    let corners = [7, 0, 0xFE, 0xFF, 0x88, 0xFF, 9, 0, 0, 0, 125, 0];
+    assert_eq!((list[70], &list[71..83]), (10, &corners[..]));
     assert_eq!(dump(&list).text, EACH_KIND);
 }
 
@@ -185,7 +188,7 @@ fn a_wrong_kind_ends_the_dump_at_any_record() {
     let starts = places(EACH_KIND);
     for (before, &place) in starts.iter().enumerate().skip(1) {
         let mut damaged = list.clone();
-        damaged[place] = 10;
+        damaged[place] = 11;
         assert_eq!(assert_told(&damaged), Some(Refusal::UnknownKind));
         let dumped = dump(&damaged);
         assert_eq!(places(&dumped.text), starts[..before]);
@@ -199,8 +202,8 @@ fn a_wrong_kind_ends_the_dump_at_any_record() {
 #[test]
 fn a_record_of_version_2_ends_the_dump_of_version_1() {
     let whole = make(EACH_KIND.as_bytes()).unwrap();
-    let (older, newer) = (&whole[..52], [52..54, 54..61, 61..70]);
-    for records in [[0, 1, 2], [1, 2, 0], [2, 1, 0]] {
+    let (older, newer) = (&whole[..52], [52..54, 54..61, 61..70, 70..83]);
+    for records in [[0, 1, 2, 3], [1, 2, 3, 0], [2, 1, 0, 3], [3, 0, 1, 2]] {
         let newer = records.map(|record: usize| &whole[newer[record].clone()]);
         let mut list = [older, &newer.concat(), &[0]].concat();
         assert_eq!(assert_told(&list), None);
@@ -215,7 +218,7 @@ fn a_record_of_version_2_ends_the_dump_of_version_1() {
 #[test]
 fn damaged_lists_tell_the_refusal_of_their_check() {
     let mut random = Random::new(2);
-    let mut seen = [0_u32; 34];
+    let mut seen = [0_u32; 36];
     for _ in 0..10 * ROUNDS {
         let mut list = any_list(&mut random);
         damage(&mut random, &mut list);
@@ -224,7 +227,8 @@ fn damaged_lists_tell_the_refusal_of_their_check() {
     }
     // Every refusal of a list but that of its length, and lists that took no harm.
     assert!(seen[..12].iter().all(|&count| count > 10), "{seen:?}");
-    assert!(seen[31] > 10 && seen[33] > 10, "{seen:?}");
+    let newer = [31, 33, 34, 35].map(|number: usize| seen[number]);
+    assert!(newer.iter().all(|&count| count > 10), "{seen:?}");
 }
 
 #[test]
@@ -320,9 +324,56 @@ fn wrong_discs_and_rings_are_told() {
 }
 
 #[test]
+fn wrong_triangles_are_told() {
+    assert_wrong_records(&[
+        (
+            "triangle 1 1 3 2 5",
+            "expected triangle X Y X Y X Y, found triangle 1 1 3 2 5",
+        ),
+        (
+            "triangle 1 1 3 2 5 5 7",
+            "expected triangle X Y X Y X Y, found triangle 1 1 3 2 5 5 7",
+        ),
+        (
+            "triangle 1 1 3 2 5 32768",
+            "expected triangle X Y X Y X Y, \
+             found triangle 1 1 3 2 5 32768: 32768 does not fit Y",
+        ),
+        (
+            "triangle 1 1 3 2 5 4096",
+            "refused 7: a coordinate is outside -4,096 to 4,095",
+        ),
+        (
+            "triangle 0 0 128 0 64 0",
+            "refused 34: the width or height of the triangle is above 127",
+        ),
+        (
+            "triangle 0 0 127 127 64 64",
+            "refused 35: the corners of the triangle are on one straight line",
+        ),
+    ]);
+}
+
+/// Any order of the corners is a text and a list of its own.
+#[test]
+fn corners_come_back_in_their_order() {
+    let orders = ["1 2 9 3 4 8", "9 3 1 2 4 8", "4 8 9 3 1 2", "4 8 1 2 9 3"];
+    let lists = orders.map(|order| {
+        let list = make(format!("page 4 3 0\ntriangle {order}\nend\n").as_bytes()).unwrap();
+        let words = format!("triangle {order} ");
+        assert!(dump(&list).text.contains(&words), "{}", dump(&list).text);
+        assert_eq!(assert_told(&list), None);
+        list
+    });
+    for (k, list) in lists.iter().enumerate() {
+        assert!(!lists[..k].contains(list));
+    }
+}
+
+#[test]
 fn wrong_lines_are_told_by_their_number() {
-    let record =
-        "a record (clip, level, player, exact, approximate, disc, ring, bigdisc, bigring or end)";
+    let record = "a record (clip, level, player, exact, approximate, disc, ring, bigdisc, \
+                  bigring, triangle or end)";
     let rows = [
         (
             "",
@@ -425,7 +476,12 @@ fn wrong_lines_are_told_by_their_number() {
     ];
     assert_wrong_records(&rows);
 
-    for line in ["player 0", "bigdisc 1 1 5", "bigring 1 1 5 2"] {
+    for line in [
+        "player 0",
+        "bigdisc 1 1 5",
+        "bigring 1 1 5 2",
+        "triangle 1 1 5 2 0 3",
+    ] {
         let of_version_1 = format!("page 4 3 0 version 1\nlevel 9\n{line}\nend\n");
         let told = "line 3: refused 4: the version of the list has no record of this kind";
         assert_eq!(wrong(&of_version_1), told);
@@ -437,6 +493,7 @@ fn wrong_lines_are_told_by_their_number() {
         "players 3",
         "circle 1 1 5",
         "big disc 1 1 5",
+        "triangles 1 1 5 2 0 3",
         "3",
     ] {
         let text = format!("page 4 3 0\n{line}\nend\n");

@@ -1,7 +1,9 @@
-//! The coverage of one shape at one pixel: area rule, approximate rule and chord rule.
+//! The coverage of one shape at one pixel: area rule, approximate rule and chord rule. That of a
+//! triangle has a file of its own.
 
 use crate::refusal::Refused;
 use crate::shape::{coordinate_refusal, Line, Shape};
+use crate::triangle::triangle_cover;
 
 /// n over d, as the rules give them and never reduced.
 #[derive(Clone, Copy, Debug, PartialEq, Eq)]
@@ -10,7 +12,7 @@ pub struct Fraction {
     pub d: u64,
 }
 
-fn fraction(n: i128, d: i128) -> Fraction {
+pub(crate) fn fraction(n: i128, d: i128) -> Fraction {
     let whole = |value: i128| u64::try_from(value).expect("coverage is neither negative nor huge");
     Fraction {
         n: whole(n),
@@ -18,7 +20,7 @@ fn fraction(n: i128, d: i128) -> Fraction {
     }
 }
 
-/// The coverage query: 7 for the shape, then for the pixel, then 9, 10, 33, 11.
+/// The coverage query: 7 for the shape, then for the pixel, then 9, 10, 33, 11, 34, 35.
 pub fn query(shape: &Shape, x: i16, y: i16) -> Result<Fraction, Refused> {
     let refusal = shape
         .coordinate_refusal()
@@ -51,6 +53,7 @@ pub fn exact_coverage(shape: &Shape, x: i32, y: i32) -> Fraction {
             let inner = disc_cover(ring.radius - ring.width, x, y, ring.x, ring.y);
             fraction(outer - inner, 512)
         }
+        Shape::Triangle(triangle) => triangle_cover(triangle, x, y),
     }
 }
 

@@ -1,7 +1,9 @@
 //! The bytes of a header and of each kind of record.
 
 use crate::refusal::Refusal;
-use crate::shape::{version_refusal, Basis, Clip, Disc, Line, Record, Ring, Setting, Shape};
+use crate::shape::{
+    version_refusal, Basis, Clip, Disc, Line, Record, Ring, Setting, Shape, Triangle,
+};
 
 pub const LONGEST_LIST: usize = 65_536;
 pub const HEADER_LENGTH: usize = 10;
@@ -53,9 +55,9 @@ pub fn encode_header(header: &Header) -> Vec<u8> {
     bytes
 }
 
-/// 4 unless the version has this kind: version 1 has 0 to 6, and version 2 has 7 to 9 too.
+/// 4 unless the version has this kind: version 1 has 0 to 6, and version 2 has 7 to 10 too.
 pub fn kind_refusal(kind: u8, version: u16) -> Option<Refusal> {
-    let last = if version == 1 { 6 } else { 9 };
+    let last = if version == 1 { 6 } else { 10 };
     (kind > last).then_some(Refusal::UnknownKind)
 }
 
@@ -71,6 +73,7 @@ fn record_length(kind: u8) -> usize {
         7 => 2,
         8 => 7,
         9 => 9,
+        10 => 13,
         _ => panic!("no version has kind {kind}"),
     }
 }
@@ -90,6 +93,7 @@ pub fn decode_record(bytes: &[u8], version: u16) -> Result<(Record, usize), Refu
         3 | 4 => Record::Shape(Shape::Line(decode_line(bytes))),
         5 | 8 => Record::Shape(Shape::Disc(decode_disc(bytes))),
         6 | 9 => Record::Shape(Shape::Ring(decode_ring(bytes))),
+        10 => Record::Shape(Shape::Triangle(decode_triangle(bytes))),
         _ => Record::Setting(Setting::Player(bytes[1])),
     };
     Ok((record, length))
@@ -146,6 +150,17 @@ fn decode_ring(bytes: &[u8]) -> Ring {
     }
 }
 
+fn decode_triangle(bytes: &[u8]) -> Triangle {
+    Triangle {
+        x0: signed(bytes, 1),
+        y0: signed(bytes, 3),
+        x1: signed(bytes, 5),
+        y1: signed(bytes, 7),
+        x2: signed(bytes, 9),
+        y2: signed(bytes, 11),
+    }
+}
+
 /// The kind byte of a record.
 pub fn kind_of(record: &Record) -> u8 {
     match record {
@@ -159,6 +174,7 @@ pub fn kind_of(record: &Record) -> u8 {
         Record::Shape(Shape::Ring(ring)) if ring.big => 9,
         Record::Shape(Shape::Ring(_)) => 6,
         Record::Setting(Setting::Player(_)) => 7,
+        Record::Shape(Shape::Triangle(_)) => 10,
     }
 }
 
@@ -184,6 +200,11 @@ pub fn encode_record(record: &Record) -> Vec<u8> {
             bytes.extend([ring.x, ring.y].map(i16::to_le_bytes).iter().flatten());
             bytes.extend(encode_measure(ring.radius, ring.big));
             bytes.extend(encode_measure(ring.width, ring.big));
+        }
+        Record::Shape(Shape::Triangle(triangle)) => {
+            for (x, y) in triangle.corners() {
+                bytes.extend([x, y].map(i16::to_le_bytes).iter().flatten());
+            }
         }
     }
     bytes

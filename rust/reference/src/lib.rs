@@ -15,4 +15,5 @@ pub mod print;
 pub mod reader;
 pub mod refusal;
 pub mod shape;
+pub mod triangle;
 pub mod writer;

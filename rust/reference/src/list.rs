@@ -59,8 +59,8 @@ fn check_header(list: &[u8], page_bytes: usize) -> Result<Header, Refusal> {
     Ok(header)
 }
 
-/// The records before the end record: each tried 4, 5, then 7, 8, 9, 10, 33, 11 and 31 as its kind has
-/// them; last 6.
+/// The records before the end record: each tried 4, 5, then 7, 8, 9, 10, 33, 11, 31, 34 and 35 as its
+/// kind has them; last 6.
 fn check_records(list: &[u8], header: &Header) -> Result<Vec<Record>, Refused> {
     let mut records = Vec::new();
     let mut place = HEADER_LENGTH;

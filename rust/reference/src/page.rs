@@ -22,7 +22,8 @@ pub fn page_length(width: u16, height: u16) -> usize {
     usize::from(width) * usize::from(height)
 }
 
-/// Draws one shape and counts the touched pixels. Tried 3, 21, 32, 8, 7, 9, 10, 33, 11.
+/// Draws one shape and counts the touched pixels. Tried 3, 21, 32, 8, 7, 9, 10, 33, 11,
+/// 34, 35.
 pub fn draw_shape(
     page: &mut [u8],
     width: u16,

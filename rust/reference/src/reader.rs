@@ -5,7 +5,7 @@ use crate::refusal::{Refusal, Refused};
 use crate::shape::{Basis, Record};
 
 /// The record and the bytes past it; with a refusal all that was lent.
-/// Tried 2, 3, 5 for no byte, 4, 5, then 7, 8, 9, 10, 33, 11 and 31 as the kind has them.
+/// Tried 2, 3, 5 for no byte, 4, 5, then 7, 8, 9, 10, 33, 11, 31, 34 and 35 as the kind has them.
 pub fn read_record(bytes: &[u8], basis: Basis) -> (Result<Record, Refused>, &[u8]) {
     match try_record(bytes, basis) {
         Ok((record, length)) => (Ok(record), &bytes[length..]),

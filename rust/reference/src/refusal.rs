@@ -19,6 +19,8 @@ pub enum Refusal {
     Player = 31,
     Lights = 32,
     RadiusTooLarge = 33,
+    TriangleSize = 34,
+    StraightCorners = 35,
 }
 
 impl Refusal {

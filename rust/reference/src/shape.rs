@@ -10,6 +10,8 @@ pub const LARGEST_RADIUS: u16 = 1023;
 /// The largest radius of a record that has one byte for it.
 const LARGEST_BYTE: u16 = 255;
 pub const LATEST_VERSION: u16 = 2;
+/// The greatest width and height of a triangle.
+pub const LARGEST_TRIANGLE: u16 = 127;
 /// Players are 0 to 7.
 pub const PLAYERS: usize = 8;
 
@@ -43,10 +45,28 @@ pub struct Ring {
 }
 
 #[derive(Clone, Copy, Debug, PartialEq, Eq)]
+pub struct Triangle {
+    pub x0: i16,
+    pub y0: i16,
+    pub x1: i16,
+    pub y1: i16,
+    pub x2: i16,
+    pub y2: i16,
+}
+
+impl Triangle {
+    /// In the order of its record.
+    pub fn corners(&self) -> [(i16, i16); 3] {
+        [(self.x0, self.y0), (self.x1, self.y1), (self.x2, self.y2)]
+    }
+}
+
+#[derive(Clone, Copy, Debug, PartialEq, Eq)]
 pub enum Shape {
     Line(Line),
     Disc(Disc),
     Ring(Ring),
+    Triangle(Triangle),
 }
 
 /// Keeps the pixels with x0 ≤ x < x1 and y0 ≤ y < y1.
@@ -123,9 +143,33 @@ fn width_refusal(ring: &Ring) -> Option<Refusal> {
     (ring.width == 0 || ring.width > ring.radius).then_some(Refusal::RingWidth)
 }
 
+/// 34 if the greatest x less the smallest, or the greatest y less the smallest, is above 127.
+fn size_refusal(triangle: &Triangle) -> Option<Refusal> {
+    let extent = |numbers: [i16; 3]| {
+        let numbers = numbers.map(i32::from);
+        let greatest = numbers[0].max(numbers[1]).max(numbers[2]);
+        let smallest = numbers[0].min(numbers[1]).min(numbers[2]);
+        greatest - smallest
+    };
+    let width = extent([triangle.x0, triangle.x1, triangle.x2]);
+    let height = extent([triangle.y0, triangle.y1, triangle.y2]);
+    (width.max(height) > LARGEST_TRIANGLE.into()).then_some(Refusal::TriangleSize)
+}
+
+/// 35 if the third corner is on the straight line through the first two: its way from the first is
+/// as steep as that of the second, by cross products.
+fn straight_refusal(triangle: &Triangle) -> Option<Refusal> {
+    let way = |x: i16, y: i16| {
+        let across = i64::from(x) - i64::from(triangle.x0);
+        (across, i64::from(y) - i64::from(triangle.y0))
+    };
+    let (second, third) = (way(triangle.x1, triangle.y1), way(triangle.x2, triangle.y2));
+    (second.0 * third.1 == third.0 * second.1).then_some(Refusal::StraightCorners)
+}
+
 impl Shape {
-    /// The first of 7, 9, 10, 33, 11 that the shape's kind has and the shape earns in a call that
-    /// draws it.
+    /// The first of 7, 9, 10, 33, 11, 34, 35 that the shape's kind has and the shape earns in a call
+    /// that draws it.
     pub fn first_refusal(&self) -> Option<Refusal> {
         self.coordinate_refusal().or_else(|| self.form_refusal())
     }
@@ -137,16 +181,20 @@ impl Shape {
             .or_else(|| self.form_refusal_by(largest))
     }
 
-    /// 7 for a line's ends or a circle's centre.
+    /// 7 for a line's ends, a circle's centre or a triangle's corners.
     pub fn coordinate_refusal(&self) -> Option<Refusal> {
         match self {
             Shape::Line(line) => coordinate_refusal(&[line.x0, line.y0, line.x1, line.y1]),
             Shape::Disc(disc) => coordinate_refusal(&[disc.x, disc.y]),
             Shape::Ring(ring) => coordinate_refusal(&[ring.x, ring.y]),
+            Shape::Triangle(triangle) => {
+                let corners = triangle.corners().map(|(x, y)| [x, y]);
+                coordinate_refusal(corners.as_flattened())
+            }
         }
     }
 
-    /// 9 for a line; 10, then 33 for a disc; 10, 33, then 11 for a ring.
+    /// 9 for a line; 10, then 33 for a disc; 10, 33, then 11 for a ring; 34, then 35 for a triangle.
     pub fn form_refusal(&self) -> Option<Refusal> {
         self.form_refusal_by(|_| LARGEST_RADIUS)
     }
@@ -160,6 +208,9 @@ impl Shape {
             Shape::Disc(disc) => radius_refusal(disc.radius, largest(disc.big)),
             Shape::Ring(ring) => {
                 radius_refusal(ring.radius, largest(ring.big)).or_else(|| width_refusal(ring))
+            }
+            Shape::Triangle(triangle) => {
+                size_refusal(triangle).or_else(|| straight_refusal(triangle))
             }
         }
     }
@@ -188,8 +239,8 @@ impl Clip {
 }
 
 impl Record {
-    /// The first of 7, 8, 9, 10, 33, 11 and 31 that the record's kind has and its fields earn on this
-    /// page.
+    /// The first of 7, 8, 9, 10, 33, 11, 31, 34 and 35 that the record's kind has and its fields earn
+    /// on this page.
     pub fn first_refusal(&self, width: u16, height: u16) -> Option<Refusal> {
         match self {
             Record::End | Record::Setting(Setting::Level(_)) => None,

@@ -24,8 +24,8 @@ impl Writer<'_> {
         Ok(())
     }
 
-    /// Tried 2 and 3 for what is held, 4 for a kind that the version lacks, then 7, 8, 9, 10, 33, 11
-    /// and 31 as the kind has them, then 22.
+    /// Tried 2 and 3 for what is held, 4 for a kind that the version lacks, then 7, 8, 9, 10, 33,
+    /// 11, 31, 34 and 35 as the kind has them, then 22.
     pub fn write_record(&mut self, record: &Record) -> Result<(), Refused> {
         let Basis {
             version,
@@ -60,7 +60,7 @@ impl Writer<'_> {
 mod tests {
     use super::*;
     use crate::reader::read_record;
-    use crate::shape::{Disc, Ring, Shape};
+    use crate::shape::{Disc, Ring, Shape, Triangle};
 
     fn disc(radius: u16, big: bool) -> Record {
         let (x, y) = (-1, 2);
@@ -74,6 +74,17 @@ mod tests {
             radius,
             width,
             big,
+        }))
+    }
+
+    fn triangle([x0, y0, x1, y1, x2, y2]: [i16; 6]) -> Record {
+        Record::Shape(Shape::Triangle(Triangle {
+            x0,
+            y0,
+            x1,
+            y1,
+            x2,
+            y2,
         }))
     }
 
@@ -131,6 +142,42 @@ mod tests {
             (2, ring(300, 300, true), 8, 22),
         ] {
             assert_eq!(written(version, record, left), Err(number), "{record:?}");
+        }
+    }
+
+    #[test]
+    fn corners_are_written_in_their_order() {
+        let corners = [3968, 2, 4095, 3, 3969, 4];
+        let turned = [3969, 4, 4095, 3, 3968, 2];
+        let bytes_of = |low: [u8; 6]| {
+            let [a, b, c, d, e, f] = low;
+            vec![10, a, 15, b, 0, c, 15, d, 0, e, 15, f, 0]
+        };
+        assert_eq!(
+            written(2, triangle(corners), 13),
+            Ok(bytes_of([128, 2, 255, 3, 129, 4]))
+        );
+        assert_eq!(
+            written(2, triangle(turned), 13),
+            Ok(bytes_of([129, 4, 255, 3, 128, 2]))
+        );
+    }
+
+    #[test]
+    fn refusals_of_a_triangle_come_in_order() {
+        for (version, corners, left, number) in [
+            (1, [4096, 0, 0, 0, 0, 0], 0, 4),
+            (2, [4096, 0, 0, 0, 0, 0], 0, 7),
+            (2, [0, 0, 0, 0, 0, -4097], 13, 7),
+            (2, [0, 0, 128, 0, 64, 0], 0, 34),
+            (2, [0, 0, 1, 64, 0, 128], 13, 34),
+            (2, [-4096, 0, 4095, 1, 0, 0], 13, 34),
+            (2, [0, 0, 127, 127, 1, 1], 0, 35),
+            (2, [5, 5, 5, 5, 9, 8], 13, 35),
+            (2, [0, 0, 127, 127, 1, 2], 12, 22),
+        ] {
+            let outcome = written(version, triangle(corners), left);
+            assert_eq!(outcome, Err(number), "{corners:?}");
         }
     }
 

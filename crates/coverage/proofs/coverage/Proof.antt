@@ -9,7 +9,6 @@ use Rattle.shapes.specs.Limits.{shapeRefusal}
 use Rattle.coverage.specs.Coverage.{ratioOf, queried}
 use Rattle.coverage.specs.declared.Ratio.{Ratio}
 use Rattle.coverage.specs.declared.Answer.the-variants.{Covered}
-use Rattle.shapes.specs.declared.Shape.the-variants.{Line as line, Disc as disc, Ring as ring}
 use Rattle.coverage.proofs.Query.{refused, covered, lawful}
 use borrow.Author.Needs.{needs}
 use Rattle.coverage.proofs.coverage.Statement.{statement}
@@ -39,32 +38,37 @@ returns c =
 line-ratio-requires : tie.Need-line-ratio-requires
 line-ratio-requires c κs =
     let q = passed (c .before .before .before) in
-    let e : shapeRefusal (line (c .before .shape .given .0 .0)) ≡ 0 = cc in
-    (e, q .1, q .2)
+    (rw (c .before .shape .given .1) at (q .0), q .1, q .2)
 
 disc-ratio-requires : tie.Need-disc-ratio-requires
 disc-ratio-requires c κs =
     let q = passed (c .before .before .before) in
-    let e : shapeRefusal (disc (c .before .shape2 .given .0 .0)) ≡ 0 = cc in
-    (e, q .1, q .2)
+    (rw (c .before .shape2 .given .1) at (q .0), q .1, q .2)
 
 ring-ratio-requires : tie.Need-ring-ratio-requires
 ring-ratio-requires c κs =
     let q = passed (c .before .before .before) in
-    let e : shapeRefusal (ring (c .before .shape3 .given .0 .0)) ≡ 0 = cc in
-    (e, q .1, q .2)
+    (rw (c .before .shape3 .given .1) at (q .0), q .1, q .2)
+
+triangle-ratio-requires : tie.Need-triangle-ratio-requires
+triangle-ratio-requires c κs =
+    let q = passed (c .before .before .before) in
+    (rw (c .before .shape4 .given .1) at (q .0), q .1, q .2)
 
 returns-2 : tie.Need-returns-2
-returns-2 c = answered (c .before .before .before .before) (c .line-ratio .result) (cc)
+returns-2 c = answered (c .before .before .before .before) (c .line-ratio .result) (rw (c .before .before .shape .given .1) (c .line-ratio .ensures))
 
 returns-3 : tie.Need-returns-3
-returns-3 c = answered (c .before .before .before .before) (c .disc-ratio .result) (cc)
+returns-3 c = answered (c .before .before .before .before) (c .disc-ratio .result) (rw (c .before .before .shape2 .given .1) (c .disc-ratio .ensures))
 
 returns-4 : tie.Need-returns-4
-returns-4 c = answered (c .before .before .before .before) (c .ring-ratio .result) (cc)
+returns-4 c = answered (c .before .before .before .before) (c .ring-ratio .result) (rw (c .before .before .shape3 .given .1) (c .ring-ratio .ensures))
+
+returns-5 : tie.Need-returns-5
+returns-5 c = answered (c .before .before .before .before) (c .triangle-ratio .result) (rw (c .before .before .shape4 .given .1) (c .triangle-ratio .ensures))
 
 pub coverage-spec : {M : Type 1} → statement M
 coverage-spec =
     tie.close
     (tie.spec (λ c. search needs) returns (λ c. search needs) line-ratio-requires (λ c. search needs) disc-ratio-requires (λ c. search needs)
-    ring-ratio-requires returns-2 returns-3 returns-4)
+    ring-ratio-requires (λ c. search needs) triangle-ratio-requires returns-2 returns-3 returns-4 returns-5)

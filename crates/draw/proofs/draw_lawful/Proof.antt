@@ -1,10 +1,8 @@
 -- Each kind of shape is drawn by its own crate, whose contract is this one for that kind.
-use mathlib.Core.Path.{_≡_}
+use mathlib.Core.Path.{_≡_, sym}
 use mathlib.Core.List.{List}
 use Prim.Native.Nat.{ℕ}
-use Rattle.shapes.specs.Limits.{shapeRefusal}
 use Rattle.shapes.specs.declared.Shape.{Shape}
-use Rattle.shapes.specs.declared.Shape.the-variants.{Line as line, Disc as disc, Ring as ring}
 use Rattle.coverage.specs.Coverage.{drawnD}
 use Rattle.coverage.specs.inner.OnPage.{shapeOn}
 use Rattle.lights.specs.inner.Palette.{lightsIn}
@@ -24,6 +22,9 @@ start2 c = c .before .before .before .before
 abbrev start3 : tie.After-shape3 → tie.Start
 start3 c = c .before .before .before .before
 
+abbrev start4 : tie.After-shape4 → tie.Start
+start4 c = c .before .before .before .before
+
 -- what is drawn of the case that the match finds is drawn of the shape
 found : (c : tie.Start) {s : Shape} {m : List ℕ} {t : ℕ}
     → let a = c .args in
@@ -35,8 +36,7 @@ found c e d = rw e at d
 frame-of-requires : tie.Need-frame-of-requires
 frame-of-requires c κs =
     let m = c .before .before in
-    let e : shapeRefusal (line (m .shape .given .0 .0)) ≡ 0 = cc in
-    e
+    rw (m .shape .given .1) at (start m .pre .2)
 
 draw-line-requires : tie.Need-draw-line-requires
 draw-line-requires c κs = let m = c .before .before .before in (start m .pre .0, start m .pre .1, c .frame-of .ensures)
@@ -46,36 +46,43 @@ returns c =
     let d = c .before .before in
     let m = d .before .before .before .before in
     let s = start m in
-    let e : line (m .shape .given .0 .0) ≡ s .args .shape = cc in
-    found s e (d .draw-line .ensures)
+    found s (sym (m .shape .given .1)) (d .draw-line .ensures)
 
 draw-disc-requires : tie.Need-draw-disc-requires
 draw-disc-requires c κs =
     let m = c .before .before in
-    let e : shapeRefusal (disc (m .shape2 .given .0 .0)) ≡ 0 = cc in
-    (start2 m .pre .0, start2 m .pre .1, e)
+    (start2 m .pre .0, start2 m .pre .1, rw (m .shape2 .given .1) at (start2 m .pre .2))
 
 returns-2 : tie.Need-returns-2
 returns-2 c =
     let d = c .before .before in
     let m = d .before .before .before in
     let s = start2 m in
-    let e : disc (m .shape2 .given .0 .0) ≡ s .args .shape = cc in
-    found s e (d .draw-disc .ensures)
+    found s (sym (m .shape2 .given .1)) (d .draw-disc .ensures)
 
 draw-ring-requires : tie.Need-draw-ring-requires
 draw-ring-requires c κs =
     let m = c .before .before in
-    let e : shapeRefusal (ring (m .shape3 .given .0 .0)) ≡ 0 = cc in
-    (start3 m .pre .0, start3 m .pre .1, e)
+    (start3 m .pre .0, start3 m .pre .1, rw (m .shape3 .given .1) at (start3 m .pre .2))
 
 returns-3 : tie.Need-returns-3
 returns-3 c =
     let d = c .before .before in
     let m = d .before .before .before in
     let s = start3 m in
-    let e : ring (m .shape3 .given .0 .0) ≡ s .args .shape = cc in
-    found s e (d .draw-ring .ensures)
+    found s (sym (m .shape3 .given .1)) (d .draw-ring .ensures)
+
+draw-triangle-requires : tie.Need-draw-triangle-requires
+draw-triangle-requires c κs =
+    let m = c .before .before in
+    (start4 m .pre .0, start4 m .pre .1, rw (m .shape4 .given .1) at (start4 m .pre .2))
+
+returns-4 : tie.Need-returns-4
+returns-4 c =
+    let d = c .before .before in
+    let m = d .before .before .before in
+    let s = start4 m in
+    found s (sym (m .shape4 .given .1)) (d .draw-triangle .ensures)
 
 pub draw-lawful-spec : {M : Type 1} → statement M
 draw-lawful-spec =
@@ -89,8 +96,12 @@ draw-lawful-spec =
     (λ c. search needs)
     draw-ring-requires
     (λ c. search needs)
+    draw-triangle-requires
+    (λ c. search needs)
     returns
     (λ c. search needs)
     returns-2
     (λ c. search needs)
-    returns-3)
+    returns-3
+    (λ c. search needs)
+    returns-4)

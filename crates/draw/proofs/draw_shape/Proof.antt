@@ -1,10 +1,9 @@
 -- Each kind of shape is drawn by its own function, whose contract is this one for that kind.
-use mathlib.Core.Path.{_≡_}
+use mathlib.Core.Path.{_≡_, sym}
 use mathlib.Core.List.{List}
 use Prim.Native.Nat.{ℕ}
 use lib.ListN.{length}
 use Rattle.shapes.specs.declared.Shape.{Shape}
-use Rattle.shapes.specs.declared.Shape.the-variants.{Line as line, Disc as disc, Ring as ring}
 use Rattle.draw.specs.Draw.{shapeOutcome, shapePage}
 use Rattle.draw.specs.declared.Outcome.{Outcome}
 use borrow.Author.Needs.{needs}
@@ -26,33 +25,40 @@ returns c =
     let d = c .before .before in
     let m = d .before .before .before in
     let s = m .before .before .before .before in
-    let e : line (m .shape .given .0 .0) ≡ s .args .shape = cc in
-    of-shape s e (d .draw-line .ensures)
+    of-shape s (sym (m .shape .given .1)) (d .draw-line .ensures)
 
 returns-2 : tie.Need-returns-2
 returns-2 c =
     let d = c .before .before in
     let m = d .before .before .before in
     let s = m .before .before .before .before in
-    let e : disc (m .shape2 .given .0 .0) ≡ s .args .shape = cc in
-    of-shape s e (d .draw-disc .ensures)
+    of-shape s (sym (m .shape2 .given .1)) (d .draw-disc .ensures)
 
 returns-3 : tie.Need-returns-3
 returns-3 c =
     let d = c .before .before in
     let m = d .before .before .before in
     let s = m .before .before .before .before in
-    let e : ring (m .shape3 .given .0 .0) ≡ s .args .shape = cc in
-    of-shape s e (d .draw-ring .ensures)
+    of-shape s (sym (m .shape3 .given .1)) (d .draw-ring .ensures)
+
+returns-4 : tie.Need-returns-4
+returns-4 c =
+    let d = c .before .before in
+    let m = d .before .before .before in
+    let s = m .before .before .before .before in
+    of-shape s (sym (m .shape4 .given .1)) (d .draw-triangle .ensures)
 
 pub draw-shape-spec : {M : Type 1} → statement M
 draw-shape-spec =
     tie.close
     (tie.spec
     (λ c. search needs) (λ c κs. search needs) (λ c. search needs) (λ c κs. search needs) (λ c. search needs) (λ c κs. search needs)
+    (λ c. search needs) (λ c κs. search needs)
     (λ c. search needs)
     returns
     (λ c. search needs)
     returns-2
     (λ c. search needs)
-    returns-3)
+    returns-3
+    (λ c. search needs)
+    returns-4)

@@ -1,6 +1,7 @@
 -- What a blend of codes is worked out from.
 use mathlib.Core.Path.{_≡_}
 use Prim.Native.Nat.{ℕ, _+_, _*_, _-_, _^_, _≤_, _<_}
+use Rattle.numbers.specs.inner.Inverse.{Inverse}
 
 -- n over d is a coverage whose blends fit
 pub record Coverage (n d : ℕ) : Type 0 where
@@ -9,9 +10,8 @@ pub record Coverage (n d : ℕ) : Type 0 where
   pub most : d ≤ 2 ^ 30
 
 -- m is the least whole number above 2^55 over d: by it a quotient by 2·d is a product
-pub record Reciprocal (d m : ℕ) : Type 0 where
-  pub least : 2 ^ 55 < m * d
-  pub most : m * d ≤ 2 ^ 55 + d
+abbrev pub Reciprocal : ℕ → ℕ → Type 0
+Reciprocal d m = Inverse (2 ^ 55) d m
 
 -- x over 2·d is the blend of codes, before it is cut to a whole number
 pub record Dividend (u v n d x : ℕ) : Type 0 where

@@ -5,7 +5,7 @@ use Prim.Native.Nat.{ℕ, _-_, _≤_, _<_}
 use lib.ListN.{length, replicate}
 use Rattle.shapes.specs.Limits.{circleRoom}
 use Rattle.shapes.specs.declared.Shape.{Shape}
-use Rattle.shapes.specs.declared.Shape.the-variants.{Line as line, Disc as disc, Ring as ring}
+use Rattle.shapes.specs.declared.Shape.the-variants.{Line as line, Disc as disc, Ring as ring, Triangle as triangle}
 use Rattle.shapes.specs.declared.Record.{Record}
 use Rattle.shapes.specs.declared.Record.the-variants.{End as end, Setting as setting, Shape as shape}
 use Rattle.lists.specs.Format.{sizeAt}
@@ -32,6 +32,7 @@ unfoldable pub ShapeFits : Shape → Type 0
 ShapeFits (line l) = Unit {0}
 ShapeFits (disc d) = CircleFits (d .big) (d .radius) 0
 ShapeFits (ring g) = CircleFits (g .big) (g .radius) (g .width)
+ShapeFits (triangle t) = Unit {0}
 
 abbrev pub RecordFits : Record → Type 0
 RecordFits end = Unit {0}

@@ -4,6 +4,18 @@ use Rattle.shapes.specs.Limits.{recordRefusal}
 use Rattle.shapes.proofs.record_refusal.Statement.{statement}
 use Rattle.shapes.proofs.record_refusal.Tie as tie
 
+of-clip : tie.Need-returns-2
+unfolding recordRefusal
+of-clip c =
+    let setting = c .before .before in
+    rw (setting .before .before .before .rec .given .1, setting .setting .given .1) (c .clip-refusal .ensures)
+
+of-player : tie.Need-returns-4
+unfolding recordRefusal
+of-player c =
+    let setting = c .before .before in
+    rw (setting .before .before .before .rec .given .1, setting .setting2 .given .1) (c .player-refusal .ensures)
+
 of-shape : tie.Need-returns-5
 unfolding recordRefusal
 of-shape c = rw (c .before .before .before .rec2 .given .1) (rw (c .before .radius-room .ensures) at (c .shape-refusal .ensures))
@@ -15,4 +27,8 @@ record-refusal-spec =
     (tie.spec
     (λ c. search needs) (λ c. search needs) (λ c. search needs) (λ c κs. search needs) (λ c. search needs)
     (λ c. search needs) (λ c κs. search needs) (λ c. search needs) (λ c κs. search needs) (λ c κs. search needs)
-    (λ c. cc) (λ c. cc) (λ c. cc) (λ c. cc) of-shape)
+    (λ c. rw (c .enum-told .given .1))
+    of-clip
+    (λ c. rw (c .before .before .before .rec .given .1, c .enum-told2 .given .1))
+    of-player
+    of-shape)

@@ -11,7 +11,7 @@ use checks::random::Random;
 use checks::{baseline, baseline_list};
 use greystroke::{
     check_list, draw_list, draw_shape, Clip, Disc, Header, Lights, Line, ListRefusal, Picture,
-    Record, Refusal, Ring, Setting, Shape, Size, Writer, LATEST_VERSION, PLAYERS,
+    Record, Refusal, Ring, Setting, Shape, Size, Triangle, Writer, LATEST_VERSION, PLAYERS,
 };
 use std::hint::black_box;
 use std::ops::RangeInclusive;
@@ -258,6 +258,29 @@ fn ring(random: &mut Random, radii: RangeInclusive<i64>, width: i64) -> Shape {
     })
 }
 
+/// A triangle with its corners anywhere in a square on the page, of so many columns and rows.
+fn triangle_within(random: &mut Random, side: i64) -> Shape {
+    let mut corner = |limit| random.between(0, limit) as i16;
+    let (left, top) = (
+        corner(i64::from(SIDE) - side),
+        corner(i64::from(SIDE) - side),
+    );
+    loop {
+        let [a, b, c, d, e, f] = std::array::from_fn(|_| corner(side));
+        let straight = i32::from(c - a) * i32::from(f - b) == i32::from(e - a) * i32::from(d - b);
+        if !straight {
+            return Shape::Triangle(Triangle {
+                x0: left + a,
+                y0: top + b,
+                x1: left + c,
+                y1: top + d,
+                x2: left + e,
+                y2: top + f,
+            });
+        }
+    }
+}
+
 fn long_line(random: &mut Random) -> Shape {
     let longer = random.between(500, 1000);
     line_within(random, longer)
@@ -336,6 +359,14 @@ fn print_circle_ratios() {
     );
 }
 
+fn print_triangle_ratios() {
+    let ways = with_codes(draw_shape as Draw, baseline::draw_shape);
+    for (name, side) in [("triangles", 127), ("triangles_small", 12)] {
+        let inputs = format!("triangles with corners in a square of {side}, which the page has");
+        print_shape_ratio(name, &inputs, &ways, |random| triangle_within(random, side));
+    }
+}
+
 /// The same shapes as in the rows without `_gamma`.
 fn print_gamma_ratios() {
     let ways = with_gamma(draw_shape as Draw, baseline::draw_shape_in_light);
@@ -356,6 +387,12 @@ fn print_gamma_ratios() {
         "discs of radius 1 to 255, gamma of a screen",
         &ways,
         |random| Shape::Disc(disc(random, 1..=255)),
+    );
+    print_shape_ratio(
+        "triangles_gamma",
+        "triangles with corners in a square of 127, gamma of a screen",
+        &ways,
+        |random| triangle_within(random, 127),
     );
 }
 
@@ -603,6 +640,7 @@ fn print_page_growth() {
 fn main() {
     print_line_ratios();
     print_circle_ratios();
+    print_triangle_ratios();
     print_gamma_ratios();
     print_list_ratios();
     print_shape_growth();

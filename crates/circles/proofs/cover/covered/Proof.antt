@@ -7,7 +7,12 @@ use Rattle.circles.proofs.cover.covered.Tie as tie
 
 returns : tie.Need-returns
 unfolding chords chord
-returns c = (cc, omega arith)
+returns c =
+    let one = c .before .before in
+    let n = one .before .before in (
+      rw (one .chord-of .ensures .0, c .chord-of2 .ensures .0, one .before .height .ensures, c .before .height2 .ensures, n .greater .ensures, n .before .lesser .ensures),
+      omega (arith, one .chord-of .ensures .1, c .chord-of2 .ensures .1),
+    )
 
 pub covered-spec : {M : Type 1} → statement M
 covered-spec =

@@ -4,7 +4,7 @@ use Rattle.circles.proofs.cover.is_clear.Statement.{statement}
 use Rattle.circles.proofs.cover.is_clear.Tie as tie
 
 returns : tie.Need-returns
-returns c = cc
+returns c = rw (c .before .height .ensures, c .before .before .lesser .ensures, c .greater .ensures)
 
 pub is-clear-spec : {M : Type 1} → statement M
 is-clear-spec =

@@ -4,7 +4,7 @@ use Rattle.circles.proofs.cover.is_whole.Statement.{statement}
 use Rattle.circles.proofs.cover.is_whole.Tie as tie
 
 returns : tie.Need-returns
-returns c = cc
+returns c = rw (c .height .ensures, c .before .lesser .ensures, c .before .before .greater .ensures)
 
 pub is-whole-spec : {M : Type 1} → statement M
 is-whole-spec =

@@ -1,4 +1,4 @@
--- The numbers come back from their locals as they were, and the size is that of the kind.
+-- The numbers come back from their locals as they were; the last two are 0.
 use mir.Facts.{toZ-ofZ}
 use borrow.Author.Needs.{needs}
 use Rattle.greystroke.proofs.list.numbered.Statement.{statement}
@@ -7,7 +7,7 @@ use Rattle.greystroke.proofs.list.numbered.Tie as tie
 returns : tie.Need-returns
 returns c =
     let fits = c .before .fits in
-    rw (c .kind-size .ensures, toZ-ofZ (fits .a), toZ-ofZ (fits .b), toZ-ofZ (fits .c), toZ-ofZ (fits .d))
+    rw (toZ-ofZ (fits .a), toZ-ofZ (fits .b), toZ-ofZ (fits .c), toZ-ofZ (fits .d)) at (c .six-numbered .ensures)
 
 pub numbered-spec : {M : Type 1} → statement M
 numbered-spec = tie.close (tie.spec (λ c κs. search needs) returns)

@@ -8,7 +8,8 @@ shape-answer-spec =
     tie.close
     (tie.spec
     (λ c. search needs) (λ c κs. search needs) (λ c. search needs) (λ c κs. search needs) (λ c. search needs)
-    (λ c κs. search needs)
+    (λ c κs. search needs) (λ c. search needs) (λ c κs. search needs)
     (λ c. rw (c .before .before .shape .given .1) (c .line-answer .ensures))
     (λ c. rw (c .before .before .shape2 .given .1) (c .disc-answer .ensures))
-    (λ c. rw (c .before .before .shape3 .given .1) (c .ring-answer .ensures)))
+    (λ c. rw (c .before .before .shape3 .given .1) (c .ring-answer .ensures))
+    (λ c. rw (c .before .before .shape4 .given .1) (c .triangle-answer .ensures)))

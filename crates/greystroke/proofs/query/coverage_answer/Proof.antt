@@ -5,4 +5,8 @@ use Rattle.greystroke.proofs.query.coverage_answer.Tie as tie
 
 pub coverage-answer-spec : {M : Type 1} → statement M
 coverage-answer-spec =
-    tie.close (tie.spec (λ c. search needs) (λ c. search needs) (λ c. search needs) (λ c. cc) (λ c. cc))
+    tie.close
+    (tie.spec
+    (λ c. search needs) (λ c. search needs) (λ c. search needs)
+    (λ c. rw (c .before .answer .given .1))
+    (λ c. rw (c .before .answer2 .given .1)))

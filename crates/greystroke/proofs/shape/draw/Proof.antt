@@ -8,8 +8,8 @@ use lib.Dec.{eqb}
 use lib.IntN.{ℤ}
 use borrow.Author.Tests.{ne-eqb}
 use Rattle.numbers.proofs.Order.{lt-or-le}
-use Rattle.shapes.specs.declared.Shape.the-variants.{Line as line, Disc as disc, Ring as ring}
-use Rattle.greystroke.specs.Taken.{lineOf, discOf, ringOf, takenBy, takenOf}
+use Rattle.shapes.specs.declared.Shape.the-variants.{Line as line, Disc as disc, Ring as ring, Triangle as triangle}
+use Rattle.greystroke.specs.Taken.{lineOf, discOf, ringOf, triangleOf, takenBy, takenOf}
 use Rattle.greystroke.specs.Answers.{shapeDrawn, pageDrawn}
 use Rattle.greystroke.specs.declared.taken.Taken.the-variants.{Known, Unknown}
 use borrow.Author.Needs.{needs}
@@ -21,7 +21,7 @@ line-taken : (k : ℕ) (ns : List ℤ) → 3 ≤ k → k < 5 → takenBy k ns �
 line-taken k ns h j =
     ⊎-elim (λ g. let e : k ≡ 3 = omega arith in rw e) (λ g. let e : k ≡ 4 = omega arith in rw e) (lt-or-le k 4)
 
--- 5 and 8 are discs, 6 and 9 rings
+-- 5 and 8 are discs, 6 and 9 rings, 10 is a triangle
 disc-taken : (k : ℕ) (ns : List ℤ) → (k ≡ 5) ⊎ (k ≡ 8) → takenBy k ns ≡ Known (disc (discOf (eqb k 8) ns))
 disc-taken k ns (inl e) = rw e
 disc-taken k ns (inr e) = rw e
@@ -30,9 +30,12 @@ ring-taken : (k : ℕ) (ns : List ℤ) → (k ≡ 6) ⊎ (k ≡ 9) → takenBy k
 ring-taken k ns (inl e) = rw e
 ring-taken k ns (inr e) = rw e
 
-none-taken : (k : ℕ) (ns : List ℤ) → (k ≡ 3 → ⊥) → (k ≡ 4 → ⊥) → ((k ≡ 5) ⊎ (k ≡ 8) → ⊥) → ((k ≡ 6) ⊎ (k ≡ 9) → ⊥) → takenBy k ns ≡ Unknown
-none-taken k ns a b c d =
-    simp (ne-eqb k 3 a, ne-eqb k 4 b, ne-eqb k 5 (λ e. c (inl e)), ne-eqb k 6 (λ e. d (inl e)), ne-eqb k 8 (λ e. c (inr e)), ne-eqb k 9 (λ e. d (inr e)))
+triangle-taken : (k : ℕ) (ns : List ℤ) → k ≡ 10 → takenBy k ns ≡ Known (triangle (triangleOf ns))
+triangle-taken k ns e = rw e
+
+none-taken : (k : ℕ) (ns : List ℤ) → (k ≡ 3 → ⊥) → (k ≡ 4 → ⊥) → ((k ≡ 5) ⊎ (k ≡ 8) → ⊥) → ((k ≡ 6) ⊎ (k ≡ 9) → ⊥) → (k ≡ 10 → ⊥) → takenBy k ns ≡ Unknown
+none-taken k ns a b c d t =
+    simp (ne-eqb k 3 a, ne-eqb k 4 b, ne-eqb k 5 (λ e. c (inl e)), ne-eqb k 6 (λ e. d (inl e)), ne-eqb k 8 (λ e. c (inr e)), ne-eqb k 9 (λ e. d (inr e)), ne-eqb k 10 t)
 
 -- a disc
 returns : tie.Need-returns
@@ -60,10 +63,23 @@ returns-2 c =
     rw (ring-taken (given .kind) (given .numbers) (kind .match .keys2))
     (rw (taken .ring-of .ensures, clip .clip-of .ensures, size .unsigned2 .ensures, size .before .unsigned .ensures) at (call .draw-ring .ensures))
 
--- a line
+-- a triangle
 returns-3 : tie.Need-returns-3
 unfolding takenOf shapeDrawn pageDrawn
 returns-3 c =
+    let call = c .before .before in
+    let taken = call .before in
+    let kind = taken .before .before in
+    let clip = kind .before .before in
+    let size = clip .before in
+    let given = size .before .before .before .before .args .shape in
+    rw (triangle-taken (given .kind) (given .numbers) (kind .match .keys3))
+    (rw (taken .triangle-of .ensures, clip .clip-of .ensures, size .unsigned2 .ensures, size .before .unsigned .ensures) at (call .draw-triangle .ensures))
+
+-- a line
+returns-4 : tie.Need-returns-4
+unfolding takenOf shapeDrawn pageDrawn
+returns-4 c =
     let call = c .before .before in
     let taken = call .before in
     let kind = taken .before .before in
@@ -74,21 +90,21 @@ returns-3 c =
     (rw (taken .line-of .ensures, clip .clip-of .ensures, size .unsigned2 .ensures, size .before .unsigned .ensures) at (call .draw-line .ensures))
 
 -- no shape
-returns-4 : tie.Need-returns-4
-unfolding takenOf shapeDrawn pageDrawn
-returns-4 c =
-    let given = c .before .before .before .before .before .before .before .before .args .shape in
-    rw (none-taken (given .kind) (given .numbers) (λ e. omega (arith, c .if1 .taken)) (λ e. omega (arith, c .if1 .taken))
-    (c .before .match .rest .0 .1) (c .before .match .rest .1))
-    (refl, refl)
-
 returns-5 : tie.Need-returns-5
 unfolding takenOf shapeDrawn pageDrawn
 returns-5 c =
+    let given = c .before .before .before .before .before .before .before .before .args .shape in
+    rw (none-taken (given .kind) (given .numbers) (λ e. omega (arith, c .if1 .taken)) (λ e. omega (arith, c .if1 .taken))
+    (c .before .match .rest .0 .0 .1) (c .before .match .rest .0 .1) (c .before .match .rest .1))
+    (refl, refl)
+
+returns-6 : tie.Need-returns-6
+unfolding takenOf shapeDrawn pageDrawn
+returns-6 c =
     let rest = c .before .before in
     let given = rest .before .before .before .before .before .before .before .args .shape in
     rw (none-taken (given .kind) (given .numbers) (λ e. omega (arith, c .if2 .left)) (λ e. omega (arith, c .if2 .left))
-    (rest .match .rest .0 .1) (rest .match .rest .1))
+    (rest .match .rest .0 .0 .1) (rest .match .rest .0 .1) (rest .match .rest .1))
     (refl, refl)
 
 pub draw-spec : {M : Type 1} → statement M
@@ -96,12 +112,15 @@ draw-spec =
     tie.close
     (tie.spec
     (λ c κs. search needs) (λ c κs. search needs) (λ c κs. search needs) (λ c κs. search needs) (λ c κs. search needs)
-    (λ c κs. search needs) (λ c κs. search needs) (λ c κs. search needs) (λ c κs. search needs)
+    (λ c κs. search needs) (λ c κs. search needs) (λ c κs. search needs) (λ c κs. search needs) (λ c κs. search needs)
+    (λ c κs. search needs)
     (λ c. search needs)
     returns
     (λ c. search needs)
     returns-2
     (λ c. search needs)
     returns-3
+    (λ c. search needs)
     returns-4
-    returns-5)
+    returns-5
+    returns-6)

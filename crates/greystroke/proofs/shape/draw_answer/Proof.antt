@@ -5,4 +5,8 @@ use Rattle.greystroke.proofs.shape.draw_answer.Tie as tie
 
 pub draw-answer-spec : {M : Type 1} → statement M
 draw-answer-spec =
-    tie.close (tie.spec (λ c. search needs) (λ c. search needs) (λ c. search needs) (λ c. cc) (λ c. cc))
+    tie.close
+    (tie.spec
+    (λ c. search needs) (λ c. search needs) (λ c. search needs)
+    (λ c. rw (c .before .outcome .given .1))
+    (λ c. rw (c .before .outcome2 .given .1)))

@@ -5,7 +5,8 @@ use borrow.Author.Tests.{ne-eqb}
 use Rattle.shapes.specs.declared.Line.{Line}
 use Rattle.shapes.specs.declared.Disc.{Disc}
 use Rattle.shapes.specs.declared.Ring.{Ring}
-use Rattle.shapes.specs.declared.Shape.the-variants.{Line as line, Disc as disc, Ring as ring}
+use Rattle.shapes.specs.declared.Triangle.{Triangle}
+use Rattle.shapes.specs.declared.Shape.the-variants.{Line as line, Disc as disc, Ring as ring, Triangle as triangle}
 use Rattle.greystroke.specs.Taken.{takenOf}
 use Rattle.greystroke.specs.declared.taken.Taken.the-variants.{Known}
 use Rattle.greystroke.proofs.taken.taken_of.Statement.{statement}
@@ -37,20 +38,25 @@ returns-6 c = rw (c .before .match .keys6) (ap (λ (x : Ring). Known (ring x)) (
 
 returns-7 : tie.Need-returns-7
 unfolding takenOf
-returns-7 c =
+returns-7 c = rw (c .before .match .keys7) (ap (λ (x : Triangle). Known (triangle x)) (c .triangle-of .ensures))
+
+returns-8 : tie.Need-returns-8
+unfolding takenOf
+returns-8 c =
     let r = c .match .rest in
-    simp (ne-eqb _ _ (r .1), ne-eqb _ _ (r .0 .1), ne-eqb _ _ (r .0 .0 .1), ne-eqb _ _ (r .0 .0 .0 .1), ne-eqb _ _ (r .0 .0 .0 .0 .1), ne-eqb _ _ (r .0 .0 .0 .0 .0 .1))
+    simp (ne-eqb _ _ (r .1), ne-eqb _ _ (r .0 .1), ne-eqb _ _ (r .0 .0 .1), ne-eqb _ _ (r .0 .0 .0 .1), ne-eqb _ _ (r .0 .0 .0 .0 .1), ne-eqb _ _ (r .0 .0 .0 .0 .0 .1), ne-eqb _ _ (r .0 .0 .0 .0 .0 .0 .1))
 
 pub taken-of-spec : {M : Type 1} → statement M
 taken-of-spec =
     tie.close
     (tie.spec
     (λ c κs. search needs) (λ c κs. search needs) (λ c κs. search needs) (λ c κs. search needs) (λ c κs. search needs)
-    (λ c κs. search needs)
+    (λ c κs. search needs) (λ c κs. search needs)
     returns
     returns-2
     returns-3
     returns-4
     returns-5
     returns-6
-    returns-7)
+    returns-7
+    returns-8)

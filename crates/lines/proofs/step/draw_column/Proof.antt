@@ -1,9 +1,26 @@
 -- A spot keeps the page's length, so the bytes that the clip shows stay on the page; three spots, one after the other, are the column.
+use mathlib.Core.Path.{_≡_, sym, _∙_}
+use mathlib.Core.Bool.{Bool}
+use mathlib.Core.List.{List}
+use Prim.Native.Nat.{ℕ, _+_, _-_}
 use native.Mathlib.Omega.{arith}
-use mathlib.Core.Path.{sym, _∙_}
 use borrow.Author.Needs.{needs}
+use Rattle.lines.specs.inner.Layout.{shown, raised, lowered, spotted, counted, columned, columnCount}
+use Rattle.lines.specs.declared.layout.Layout.{Layout}
+use Rattle.coverage.specs.declared.line.Rows.{Rows}
 use Rattle.lines.proofs.step.draw_column.Statement.{statement}
 use Rattle.lines.proofs.step.draw_column.Tie as tie
+
+-- what is shown of each of the three rows, and the bytes of the upper and the lower
+module _ (lay : Layout) (rows : Rows) (k g : ℕ) {u m w : Bool} (up : u ≡ shown lay (g + 1)) (mid : m ≡ shown lay g) (down : w ≡ shown lay (g - 1)) where
+  three-spots : (ink : ℕ → ℕ → ℕ) {above below : ℕ} (l : List ℕ) {l₁ l₂ l₃ : List ℕ} → above ≡ raised lay k → below ≡ lowered lay k
+      → l₁ ≡ spotted u ink (rows .upper) (above - lay .origin) l → l₂ ≡ spotted m ink (rows .middle) (k - lay .origin) l₁
+      → l₃ ≡ spotted w ink (rows .lower) (below - lay .origin) l₂ → l₃ ≡ columned lay ink rows k g l
+  three-spots ink l a b p q r = rw (r, q, p, up, mid, down, a, b)
+
+  three-counts : {t₁ t₂ t₃ : ℕ} → t₁ ≡ counted u (rows .upper) → t₂ ≡ counted m (rows .middle) → t₃ ≡ counted w (rows .lower)
+      → t₁ + t₂ + t₃ ≡ columnCount lay rows g
+  three-counts p q r = rw (r, q, p, up, mid, down)
 
 abbrev start : tie.After-byte-above → tie.Start
 start c = c .before .before .before .before .before
@@ -42,9 +59,13 @@ returns c =
     let above = one .before in
     let a = three .spot3 .ensures in
     let b = two .spot2 .ensures in
-    let d = one .spot .ensures in (
-      rw (a .0, b .0, d .0, above .before .is-shown .ensures, shown2 .is-shown2 .ensures, shown3 .is-shown3 .ensures, above .byte-above .ensures .0, three .before .byte-below .ensures),
-      (rw (a .1, b .1, d .1, above .before .is-shown .ensures, shown2 .is-shown2 .ensures, shown3 .is-shown3 .ensures), omega (arith, a .2, b .2, d .2)),
+    let d = one .spot .ensures in
+    let x = start above .args in
+    let up = above .before .is-shown .ensures in
+    let mid = shown2 .is-shown2 .ensures in
+    let down = shown3 .is-shown3 .ensures in (
+      three-spots (x .lay) (x .rows) (x .k) (x .g) up mid down _ (x .page .now) (above .byte-above .ensures .0) (three .before .byte-below .ensures) (d .0) (b .0) (a .0),
+      (three-counts (x .lay) (x .rows) (x .k) (x .g) up mid down (d .1) (b .1) (a .1), omega (arith, a .2, b .2, d .2)),
     )
 
 pub draw-column-spec : {M : Type 1} → statement M

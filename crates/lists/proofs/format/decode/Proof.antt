@@ -10,8 +10,9 @@ use Rattle.shapes.specs.declared.Disc.{Disc}
 use Rattle.shapes.specs.declared.Line.{Line}
 use Rattle.shapes.specs.declared.Record.the-variants.{End as end, Setting as setting, Shape as shape}
 use Rattle.shapes.specs.declared.Ring.{Ring}
+use Rattle.shapes.specs.declared.Triangle.{Triangle}
 use Rattle.shapes.specs.declared.Setting.the-variants.{Clip as clip}
-use Rattle.shapes.specs.declared.Shape.the-variants.{Line as line, Disc as disc, Ring as ring}
+use Rattle.shapes.specs.declared.Shape.the-variants.{Line as line, Disc as disc, Ring as ring, Triangle as triangle}
 use Rattle.lists.proofs.format.decode.Tie as tie
 
 -- the end record has a row of its own, and stands for a kind that has none
@@ -19,12 +20,12 @@ either-end : (b : Bool) → cond b end end ≡ end
 either-end true = refl
 either-end false = refl
 
-other-kind : tie.Need-returns-10
+other-kind : tie.Need-returns-11
 unfolding decoded
 other-kind c =
     let r = c .match .rest in
     let q = r .0 .0 .0 .0 .0 in
-    simp (ne-eqb _ _ (r .1), ne-eqb _ _ (r .0 .1), ne-eqb _ _ (r .0 .0 .1), ne-eqb _ _ (r .0 .0 .0 .1), ne-eqb _ _ (r .0 .0 .0 .0 .1), ne-eqb _ _ (q .1), ne-eqb _ _ (q .0 .1), ne-eqb _ _ (q .0 .0 .1), ne-eqb _ _ (q .0 .0 .0 .1), either-end)
+    simp (ne-eqb _ _ (r .1), ne-eqb _ _ (r .0 .1), ne-eqb _ _ (r .0 .0 .1), ne-eqb _ _ (r .0 .0 .0 .1), ne-eqb _ _ (r .0 .0 .0 .0 .1), ne-eqb _ _ (q .1), ne-eqb _ _ (q .0 .1), ne-eqb _ _ (q .0 .0 .1), ne-eqb _ _ (q .0 .0 .0 .1), ne-eqb _ _ (q .0 .0 .0 .0 .1), either-end)
 
 pub decode-spec : {M : Type 1} → statement M
 unfolding kindSize decoded
@@ -41,6 +42,7 @@ decode-spec =
     (λ c. rw (c .before .match .keys7) at (c .before .before .before .before .pre .fits))
     (λ c κs. rw (c .match .keys8) at (c .before .before .before .pre .fits))
     (λ c κs. rw (c .match .keys9) at (c .before .before .before .pre .fits))
+    (λ c κs. rw (c .match .keys10) at (c .before .before .before .pre .fits))
     (λ c. rw (c .before .match .keys1) (ap (λ (x : Clip). setting (clip x)) (c .clip-at .ensures)))
     (λ c. rw (c .before .match .keys2))
     (λ c. rw (c .before .match .keys3) (ap (λ (x : Line). shape (line x)) (c .line-at .ensures)))
@@ -50,4 +52,5 @@ decode-spec =
     (λ c. rw (c .before .match .keys7))
     (λ c. rw (c .before .match .keys8) (ap (λ (x : Disc). shape (disc x)) (c .big-disc-at .ensures)))
     (λ c. rw (c .before .match .keys9) (ap (λ (x : Ring). shape (ring x)) (c .big-ring-at .ensures)))
+    (λ c. rw (c .before .match .keys10) (ap (λ (x : Triangle). shape (triangle x)) (c .triangle-at .ensures)))
     other-kind)

@@ -4,12 +4,12 @@ use Rattle.lists.specs.Format.{kindSize}
 use Rattle.lists.proofs.format.kind_size.Statement.{statement}
 use Rattle.lists.proofs.format.kind_size.Tie as tie
 
-other-kind : tie.Need-returns-11
+other-kind : tie.Need-returns-12
 unfolding kindSize
 other-kind c =
     let r = c .match .rest in
     let q = r .0 .0 .0 .0 .0 in
-    simp (ne-eqb _ _ (r .1), ne-eqb _ _ (r .0 .1), ne-eqb _ _ (r .0 .0 .1), ne-eqb _ _ (r .0 .0 .0 .1), ne-eqb _ _ (r .0 .0 .0 .0 .1), ne-eqb _ _ (q .1), ne-eqb _ _ (q .0 .1), ne-eqb _ _ (q .0 .0 .1), ne-eqb _ _ (q .0 .0 .0 .1), ne-eqb _ _ (q .0 .0 .0 .0 .1))
+    simp (ne-eqb _ _ (r .1), ne-eqb _ _ (r .0 .1), ne-eqb _ _ (r .0 .0 .1), ne-eqb _ _ (r .0 .0 .0 .1), ne-eqb _ _ (r .0 .0 .0 .0 .1), ne-eqb _ _ (q .1), ne-eqb _ _ (q .0 .1), ne-eqb _ _ (q .0 .0 .1), ne-eqb _ _ (q .0 .0 .0 .1), ne-eqb _ _ (q .0 .0 .0 .0 .1), ne-eqb _ _ (q .0 .0 .0 .0 .0 .1))
 
 pub kind-size-spec : {M : Type 1} → statement M
 unfolding kindSize
@@ -26,4 +26,5 @@ kind-size-spec =
     (λ c. rw (c .match .keys8))
     (λ c. rw (c .match .keys9))
     (λ c. rw (c .match .keys10))
+    (λ c. rw (c .match .keys11))
     other-kind)

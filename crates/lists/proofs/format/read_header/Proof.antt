@@ -3,6 +3,10 @@ use borrow.Author.Needs.{needs}
 use Rattle.lists.proofs.format.read_header.Statement.{statement}
 use Rattle.lists.proofs.format.read_header.Tie as tie
 
+returns : tie.Need-returns
+returns c = rw (c .before .before .before .word-at .ensures, c .before .before .word-at2 .ensures, c .before .word-at3 .ensures)
+
 pub read-header-spec : {M : Type 1} → statement M
 read-header-spec =
-    tie.close (tie.spec (λ c κs. search needs) (λ c κs. search needs) (λ c κs. search needs) (λ c. search needs) (λ c. cc))
+    tie.close
+    (tie.spec (λ c κs. search needs) (λ c κs. search needs) (λ c κs. search needs) (λ c. search needs) returns)

@@ -12,5 +12,7 @@ record-kind-spec =
     (λ c. search needs) (λ c. search needs) (λ c. search needs) (λ c. search needs) (λ c. search needs)
     (λ c. search needs) (λ c κs. search needs)
     (λ c. rw (c .enum-told .given .1))
-    (λ c. cc) (λ c. cc) (λ c. cc)
+    (λ c. rw (c .before .before .before .rec .given .1, c .enum-told2 .given .1))
+    (λ c. rw (c .before .before .before .rec .given .1, c .enum-told3 .given .1))
+    (λ c. rw (c .before .before .before .rec .given .1, c .enum-told4 .given .1))
     (λ c. rw (c .before .before .rec2 .given .1) (c .shape-kind .ensures)))

@@ -10,7 +10,8 @@ shape-kind-spec =
     tie.close
     (tie.spec
     (λ c. search needs) (λ c κs. search needs) (λ c. search needs) (λ c κs. search needs) (λ c. search needs)
-    (λ c κs. search needs)
+    (λ c κs. search needs) (λ c. search needs)
     (λ c. rw (c .before .before .shape .given .1) (c .line-kind .ensures))
     (λ c. rw (c .before .before .shape2 .given .1) (c .disc-kind .ensures))
-    (λ c. rw (c .before .before .shape3 .given .1) (c .ring-kind .ensures)))
+    (λ c. rw (c .before .before .shape3 .given .1) (c .ring-kind .ensures))
+    (λ c. rw (c .enum-told .given .1)))

@@ -1,26 +1,28 @@
--- The array holds the bytes of the coordinates, of which the locals lose nothing, the two bytes, and zeros.
+-- The word of two bytes is those bytes, and the zeros behind it are those of the array; the locals lose nothing of the coordinates.
 use mathlib.Core.Path.{_∙_, ap}
+use mathlib.Core.List.{_∷_, _++_}
+use native.Mathlib.Omega.{arith}
 use borrow.Author.Needs.{needs}
-use Rattle.numbers.specs.Coordinate.{bitsOf, bytesOf}
+use lib.ListN.{replicate}
 use mir.Syntax.{w16}
+use Rattle.numbers.specs.Coordinate.{bitsOf, bytesOf}
+use Rattle.numbers.proofs.Coordinate.{bytes-word}
 use Rattle.shapes.proofs.Limits.{kept}
 use Rattle.lists.proofs.format.small_circle_bytes.Statement.{statement}
 use Rattle.lists.proofs.format.small_circle_bytes.Tie as tie
 
 returns : tie.Need-returns
 returns c =
-    let word-bytes = c .before .before .word-bytes in
-    let bits = c .before .before .before .bits in
-    let fits = c .before .before .before .before .fits in
-    let a = c .before .before .before .before .args in
-    let x = word-bytes .ensures ∙ ap bytesOf (bits .ensures ∙ ap bitsOf (kept w16 (a .x) (fits .x .sfits))) in
-    let y = c .word-bytes2 .ensures ∙ ap bytesOf (c .before .bits2 .ensures ∙ ap bitsOf (kept w16 (a .y) (fits .y .sfits))) in
-    simp (x, y)
+    let start = c .before .before .before in
+    let a = start .args in
+    let x = c .before .before .bits .ensures ∙ ap bitsOf (kept w16 (a .x) (start .fits .x .sfits)) in
+    let y = c .before .bits2 .ensures ∙ ap bitsOf (kept w16 (a .y) (start .fits .y .sfits)) in
+    let both = bytes-word (a .radius) (a .width) (omega (arith, start .pre .0)) in
+    c .four-words .ensures ∙ (λ i. a .kind ∷ bytesOf (x i) ++ bytesOf (y i) ++ both i ++ replicate 6 0)
 
 pub small-circle-bytes-spec : {M : Type 1} → statement M
 small-circle-bytes-spec =
     tie.close
     (tie.spec
-    (λ c κs. search needs) (λ c κs. search needs) (λ c κs. search needs) (λ c κs. search needs) (λ c. search needs)
-    (λ c. search needs) (λ c. search needs) (λ c. search needs) (λ c. search needs) (λ c. search needs)
+    (λ c κs. search needs) (λ c κs. search needs) (λ c. search needs) (λ c. search needs) (λ c κs. search needs)
     returns)

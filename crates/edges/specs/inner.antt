@@ -1,0 +1,2 @@
+-- The rule by naturals; no entry point cites it.
+pub mod Strip

@@ -1,0 +1,116 @@
+//! What the benchmark measures against keeps the rules: the baseline against the reference.
+
+use checks::drawings::{drawing, triangle_drawing};
+use checks::lights::{fit_lights, named};
+use checks::listings::{damage, list};
+use checks::notation::triangle_of;
+use checks::pictures::{picture, Listed};
+use checks::random::Random;
+use checks::rows::{starting_page, ShapeCall};
+use checks::{baseline_list, baseline_page, reference_page};
+use greystroke::Lights;
+use reference::lights::lights_refusal;
+use reference::list::{draw_list, Drawn};
+use reference::page::page_length;
+use reference::refusal::Refused;
+use reference::shape::{Clip, Shape};
+
+const TRIANGLES: u32 = 200_000;
+const DRAWS: u32 = 20_000;
+const LISTS: u32 = 4_000;
+
+/// Draws by both on the same page, and says how many pixels were touched if nothing is refused.
+fn agreed(call: &ShapeCall) -> Option<u64> {
+    let (mut expected, mut found) = (call.clone(), call.clone());
+    let expected_answer = reference_page::draw_shape(&mut expected);
+    let found_answer = baseline_page::draw_shape(&mut found);
+    assert_eq!(found_answer, expected_answer, "{call:?}");
+    assert!(found.page == expected.page, "{call:?}");
+    expected_answer.ok()
+}
+
+#[test]
+fn random_triangles_agree() {
+    let mut random = Random::new(51);
+    let mut touching = 0;
+    for _ in 0..TRIANGLES {
+        let call = triangle_drawing(&mut random);
+        touching += u32::from(agreed(&call) > Some(0));
+    }
+    assert!(touching > TRIANGLES / 4, "only {touching} touch a pixel");
+}
+
+/// Every triangle with its corners on a lattice of four by four.
+#[test]
+fn every_tiny_triangle_agrees() {
+    let corners = || (0..4).flat_map(|y| (0..4).map(move |x| (x + 1, y + 1)));
+    for ((x0, y0), (x1, y1)) in corners().flat_map(|a| corners().map(move |b| (a, b))) {
+        for (x2, y2) in corners() {
+            let call = ShapeCall {
+                page: starting_page(page_length(6, 6)),
+                width: 6,
+                height: 6,
+                lights: named("codes"),
+                clip: Clip::whole(6, 6),
+                level: 200,
+                shape: Shape::Triangle(triangle_of([x0, y0, x1, y1, x2, y2])),
+            };
+            let straight = (x1 - x0) * (y2 - y0) == (x2 - x0) * (y1 - y0);
+            assert_eq!(agreed(&call).is_none(), straight, "{call:?}");
+        }
+    }
+}
+
+#[test]
+fn random_draws_agree() {
+    let mut random = Random::new(52);
+    for _ in 0..DRAWS {
+        let (_, call) = drawing(&mut random);
+        if lights_refusal(&call.lights).is_none() {
+            agreed(&call);
+        }
+    }
+}
+
+/// A list drawn by the baseline, in codes or in light.
+fn drawn(list: &[u8], page: &mut [u8], lights: &[u16]) -> Result<Drawn, Refused> {
+    let lights = Lights::new(lights).expect("fit lights");
+    let draw = match lights == Lights::codes() {
+        true => baseline_list::draw_list,
+        false => baseline_list::draw_list_in_light,
+    };
+    match draw(page, &lights, list) {
+        Ok(picture) => Ok(Drawn {
+            width: picture.size.width,
+            height: picture.size.height,
+            touched: picture.touched,
+        }),
+        Err(refused) => Err(Refused {
+            number: refused.refusal.number(),
+            place: refused.place,
+        }),
+    }
+}
+
+#[test]
+fn random_and_damaged_lists_agree() {
+    let mut random = Random::new(53);
+    for number in 0..LISTS {
+        let mut bytes = match number % 3 {
+            0 => list(&mut random),
+            _ => {
+                let Listed { list, .. } = picture(&mut random);
+                list
+            }
+        };
+        if random.flip() {
+            damage(&mut random, &mut bytes);
+        }
+        let (_, lights) = fit_lights(&mut random);
+        let mut expected = starting_page(1600);
+        let mut found = expected.clone();
+        let answer = draw_list(&bytes, &mut expected, &lights);
+        assert_eq!(drawn(&bytes, &mut found, &lights), answer, "{bytes:02x?}");
+        assert!(found == expected, "{bytes:02x?}");
+    }
+}
