@@ -236,10 +236,11 @@ struct greystroke_list_answer {
 };
 
 /* Draws a list on a page, in light (R7.5). The whole list is checked before a byte of the page is
- * written. Refused, in this order: 12, 5 (under 10 bytes), 1, 2, 3, 21, 32, then record by record
- * 4, 5 and those of 7, 8, 9, 10, 33, 11, 31, 34 and 35 that the kind has, last 6 (R8.2). The place
- * is 0 for the header, 12, 21 and 32; else the record's first byte; the list's length where the end
- * is missing; the first surplus byte for 6. */
+ * written. How far the light of a byte, or of a zone, may be from the exact blend is read from the
+ * list (R10.4, R10.5). Refused, in this order: 12, 5 (under 10 bytes), 1, 2, 3, 21, 32, then record
+ * by record 4, 5 and those of 7, 8, 9, 10, 33, 11, 31, 34 and 35 that the kind has, last 6 (R8.2).
+ * The place is 0 for the header, 12, 21 and 32; else the record's first byte; the list's length
+ * where the end is missing; the first surplus byte for 6. */
 struct greystroke_list_answer greystroke_draw_list(
     uint8_t *page, size_t page_length, const uint16_t *lights, size_t lights_length,
     const uint8_t *list, size_t list_length);

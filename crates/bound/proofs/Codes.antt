@@ -6,8 +6,8 @@ use Rattle.numbers.specs.Fraction.{Frac, _over_, _⊕_}
 use Rattle.lights.specs.Codes.{codes}
 use Rattle.lights.proofs.Codes.{code-light, blend-codes, widest-codes, span-codes}
 use Rattle.lights.proofs.Blend.{blend-byte}
-use Rattle.bound.specs.Exact.{Touch, after, mix, whole, times, byteAfter, exactAfter, halfGap, boundOf}
-use Rattle.bound.specs.Codes.{codeAfter, exactCodeAfter, codeBoundOf}
+use Rattle.bound.specs.Exact.{Touch, after, mix, whole, times, byteAfter, exactAfter, halfGap, marginOf, marginsOf, sinceCover, boundOf}
+use Rattle.bound.specs.Codes.{codeAfter, exactCodeAfter, codeMarginsOf, codeBoundOf}
 use Rattle.bound.specs.inner.Sound.{AllSound}
 
 pub byte-codes : (u : ℕ) (ts : List Touch) → u ≤ 255 → AllSound ts → byteAfter codes u ts ≡ codeAfter u ts
@@ -24,5 +24,5 @@ exact-codes e (t ∷ ts) s =
     exact-codes _ ts (s .1) ∙ ap (λ (v : ℕ). exactCodeAfter (mix e v (t .exact)) ts) (code-light (t .level) (s .0 .0))
 
 pub bound-codes : (ts : List Touch) → boundOf codes ts ≡ codeBoundOf ts
-unfolding boundOf codeBoundOf halfGap
-bound-codes ts = ap₂ (λ (g k : ℕ). after (λ b t. b ⊕ (g over 2 ⊕ times k (t .off))) (whole 0) ts) widest-codes span-codes
+unfolding boundOf codeBoundOf marginsOf marginOf codeMarginsOf halfGap
+bound-codes ts = ap₂ (λ (g k : ℕ). after (λ b t. b ⊕ (g over 2 ⊕ times k (t .off))) (whole 0) (sinceCover ts)) widest-codes span-codes

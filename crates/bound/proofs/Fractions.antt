@@ -2,10 +2,11 @@
 use mathlib.Core.Path.{_≡_, ap, ap₂}
 use mathlib.Core.Logic.{_⊎_, inl, inr}
 use Prim.Native.Nat.{ℕ, _+_, _*_, _-_, _≤_, _<_}
-use native.Mathlib.Nat.{mul-le-mul-left, mul-le-mul-right, add-sub-of-le, mul-pos}
+use native.Mathlib.Nat.{mul-le-mul-left, mul-le-mul-right, add-sub-of-le, sub-self, mul-pos}
 use native.Mathlib.Omega.{arith}
 use Rattle.numbers.specs.Fraction.{Frac, _over_, _⊕_, _≼_, Within}
 use Rattle.numbers.proofs.Order.{lt-or-le}
+use Rattle.numbers.proofs.Fraction.{within-same}
 use Rattle.bound.specs.Exact.{whole, times, mix}
 
 pub mix-den : (e : Frac) (v : ℕ) (c : Frac) → 0 < e .den → 0 < c .den → 0 < mix e v c .den
@@ -16,6 +17,11 @@ mix-den e v c he hc = mul-pos he hc
 pub mix-whole : (u v : ℕ) (c : Frac) → mix (whole u) v c ≡ (u * (c .den - c .num) + v * c .num) over c .den
 unfolding mix
 mix-whole u v c = ap₂ _over_ (omega arith) (omega arith)
+
+-- whole coverage leaves the level, whatever was there before
+pub mix-covers : (e : Frac) (v : ℕ) (c : Frac) → c .num ≡ c .den → Within (whole v) (mix e v c) (whole 0)
+unfolding mix
+mix-covers e v c h = within-same (whole v) (mix e v c) (whole 0) (rw (h, sub-self) (omega arith))
 
 -- ---- two fractions by the same coverage: no further apart than they were
 mix-le : (p q b : Frac) (v : ℕ) (c : Frac) → c .num ≤ c .den → p ≼ q ⊕ b → mix p v c ≼ mix q v c ⊕ b

@@ -3,7 +3,7 @@ use mathlib.Core.List.{List}
 use Prim.Native.Nat.{ℕ}
 use Rattle.numbers.specs.Fraction.{Frac, _over_, _⊕_}
 use Rattle.lights.specs.Codes.{codeBlend}
-use Rattle.bound.specs.Exact.{Touch, after, mix, whole, times}
+use Rattle.bound.specs.Exact.{Touch, after, mix, whole, times, sinceCover}
 
 -- the byte u, blended by each touch
 unfoldable pub codeAfter : ℕ → List Touch → ℕ
@@ -14,5 +14,9 @@ unfoldable pub exactCodeAfter : Frac → List Touch → Frac
 exactCodeAfter = after (λ e t. mix e (t .level) (t .exact))
 
 -- half a level for each touch, and 255 times what its coverage is off
+unfoldable pub codeMarginsOf : List Touch → Frac
+codeMarginsOf = after (λ b t. b ⊕ (1 over 2 ⊕ times 255 (t .off))) (whole 0)
+
+-- the bound: only the touches after the last whole cover count
 unfoldable pub codeBoundOf : List Touch → Frac
-codeBoundOf = after (λ b t. b ⊕ (1 over 2 ⊕ times 255 (t .off))) (whole 0)
+codeBoundOf ts = codeMarginsOf (sinceCover ts)

@@ -1,6 +1,8 @@
--- One pixel under the shapes that touch it: its byte, its exact blend in light, and the bound on how far the byte's light is from that (R10.3).
+-- One pixel under the shapes that touch it: its byte, its exact blend in light, and the bound on how far the byte's light is from that (R10.3, R10.4).
+use mathlib.Core.Bool.{Bool, false, cond, _||_}
 use mathlib.Core.List.{List, [], _∷_}
 use Prim.Native.Nat.{ℕ, _+_, _*_, _-_}
+use lib.Dec.{eqb}
 use Rattle.numbers.specs.Fraction.{Frac, _over_, _⊕_}
 use Rattle.lights.specs.Lights.{lightOf, widestGap, lightSpan}
 use Rattle.lights.specs.Blend.{blend}
@@ -39,10 +41,34 @@ mix e v c = (e .num * (c .den - c .num) + v * c .num * e .den) over (e .den * c 
 unfoldable pub exactAfter : List ℕ → Frac → List Touch → Frac
 exactAfter lights = after (λ e t. mix e (lightOf lights (t .level)) (t .exact))
 
+-- ---- the margin of a touch, and the bound
+
 -- half the widest gap between neighbouring lights: what picking one code costs at most
 unfoldable pub halfGap : List ℕ → Frac
 halfGap lights = widestGap lights over 2
 
--- half the widest gap for each touch, and the span of the lights times what its coverage is off
+-- half the widest gap, and the span of the lights times what the coverage is off
+unfoldable pub marginOf : List ℕ → Touch → Frac
+marginOf lights t = halfGap lights ⊕ times (lightSpan lights) (t .off)
+
+-- the margins of some touches, summed
+unfoldable pub marginsOf : List ℕ → List Touch → Frac
+marginsOf lights = after (λ b t. b ⊕ marginOf lights t) (whole 0)
+
+-- a touch covers the pixel whole where n = d of its exact coverage; it leaves the level itself, whatever was there before
+unfoldable pub covers : Touch → Bool
+covers t = eqb (t .exact .num) (t .exact .den)
+
+-- one of some touches does
+unfoldable pub covered : List Touch → Bool
+covered [] = false
+covered (t ∷ ts) = covers t || covered ts
+
+-- the touches after the last one that does; all of them where none does
+unfoldable pub sinceCover : List Touch → List Touch
+sinceCover [] = []
+sinceCover (t ∷ ts) = cond (covered (t ∷ ts)) (sinceCover ts) (t ∷ ts)
+
+-- the bound: the margins of the touches after the last whole cover
 unfoldable pub boundOf : List ℕ → List Touch → Frac
-boundOf lights = after (λ b t. b ⊕ (halfGap lights ⊕ times (lightSpan lights) (t .off))) (whole 0)
+boundOf lights ts = marginsOf lights (sinceCover ts)

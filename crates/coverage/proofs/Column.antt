@@ -93,8 +93,13 @@ less-q q k = ap (λ (z : ℤ). z -ℤ pos q) (+ℤ-comm (pos q) k) ∙ +ℤ-neg�
 abbrev pub touchedRows : ℕ → Rows
 touchedRows t = record { upper = t; middle = 1; lower = 1 }
 
-filled-le : {t whole : ℕ} {c : Rows} → Filled t whole c → (k : ℤ) → atRow c k ≤ whole
-filled-le {t} {whole} {c} f = at-row (λ (n d : ℕ). n ≤ whole) c c (omega arith) (omega (arith, f .sum)) (omega (arith, f .sum)) (omega (arith, f .sum))
+-- two rows are always touched, so that none has all of the whole
+filled-lt : {t whole : ℕ} {c : Rows} → Filled t whole c → (k : ℤ) → atRow c k < whole
+filled-lt {t} {whole} {c} f =
+    let m = f .middle-touched in
+    let w = f .lower-touched in
+    let e = f .sum in
+    at-row (λ (n d : ℕ). n < whole) c c (omega arith) (omega arith) (omega arith) (omega arith)
 
 filled-touched : {t whole : ℕ} {c : Rows} → Filled t whole c → (k : ℤ) → (0 < atRow c k) ↔ (0 < atRow (touchedRows t) k)
 filled-touched {t} {whole} {c} f =
@@ -117,9 +122,9 @@ module _ (exact : Bool) (l s i : ℕ) (j : ℤ) (long : 0 < l) (short : s ≤ l)
   pub part-is : part ≡ atRow (rowsOf exact l s (restOf l s i)) above
   part-is = ap natAbs (closed exact l s i j long short)
 
-  -- none is above the whole
-  pub part-le : part ≤ wholeOf exact l s
-  part-le = rw part-is (filled-le (filled exact l s i long short) above)
+  -- none has the whole
+  pub part-lt : part < wholeOf exact l s
+  part-lt = rw part-is (filled-lt (filled exact l s i long short) above)
 
   pub part-touched : (0 < part) ↔ (0 < atRow (touchedRows (cutExcess l s (restOf l s i))) above)
   part-touched = rw part-is (filled-touched (filled exact l s i long short) above)

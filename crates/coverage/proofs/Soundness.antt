@@ -1,5 +1,5 @@
--- What holds of every lawful shape at every pixel: no coverage is above the whole, both coverages touch the same pixels, and the one
--- that is drawn is near the exact one.
+-- What holds of every lawful shape at every pixel: no coverage is above the whole, both coverages touch the same pixels and are whole
+-- in the same, and the one that is drawn is near the exact one.
 use mathlib.Core.Path.{_≡_, refl}
 use mathlib.Core.Bool.{Bool, true, false, cond}
 use mathlib.Core.Logic.{_↔_}
@@ -19,9 +19,9 @@ use Rattle.coverage.specs.Line.{exactRow, exactWhole, approxRow, approxW
 use Rattle.shapes.specs.Span.{longer, shorter}
 use Rattle.coverage.specs.Frame.{columnOf, frameRow}
 use Rattle.coverage.specs.Circle.{discCover, ringCover}
-use Rattle.coverage.specs.Coverage.{inColumns, lineCover, Rule, Rules, alike, exactRule, chordRule, triangleRule, lineRules, rulesOf}
+use Rattle.coverage.specs.Coverage.{inColumns, lineCover, Rule, Rules, alike, exactRule, chordRule, triangleRule, lineRules, rulesOf, exactN, exactD}
 use Rattle.coverage.proofs.Closed.{whole-some}
-use Rattle.coverage.proofs.Column.{part-le, same-touched, near}
+use Rattle.coverage.proofs.Column.{part-lt, same-touched, near}
 use Rattle.shapes.proofs.Span.{some-span, span-le}
 use Rattle.sides.specs.Triangle.{first, second, third}
 use Rattle.coverage.proofs.Chord.{disc-le, ring-le}
@@ -53,11 +53,11 @@ module _ (n : Line) (w : LawfulLine n) (x y : ℤ) where
   unfolding lineCover
   both R none each = columns R l (λ i. exactRow l s i (frameRow n x y)) (λ i. approxRow l s i (frameRow n x y)) none each (columnOf n x y)
 
-  line-exact-le : lineCover exactRow n x y ≤ exactWhole l s
-  line-exact-le = both (λ (e a : ℕ). e ≤ exactWhole l s) (omega arith) (λ i. part-le true l s i (frameRow n x y) long (span-le n))
+  line-exact-lt : lineCover exactRow n x y < exactWhole l s
+  line-exact-lt = both (λ (e a : ℕ). e < exactWhole l s) (whole-some true l s long) (λ i. part-lt true l s i (frameRow n x y) long (span-le n))
 
-  line-approx-le : lineCover approxRow n x y ≤ approxWhole l
-  line-approx-le = both (λ (e a : ℕ). a ≤ approxWhole l) (omega arith) (λ i. part-le false l s i (frameRow n x y) long (span-le n))
+  line-approx-lt : lineCover approxRow n x y < approxWhole l
+  line-approx-lt = both (λ (e a : ℕ). a < approxWhole l) (whole-some false l s long) (λ i. part-lt false l s i (frameRow n x y) long (span-le n))
 
   line-touched : (0 < lineCover exactRow n x y) ↔ (0 < lineCover approxRow n x y)
   line-touched = both (λ (e a : ℕ). (0 < e) ↔ (0 < a)) (λ h. h, λ h. h) (λ i. same-touched l s i (frameRow n x y) long (span-le n))
@@ -83,21 +83,23 @@ alike-sound r x y h p =
       off-pos = omega arith;
       touched = (λ k. k, λ k. k);
       near = within-same (r .part x y over r .whole) (r .part x y over r .whole) (0 over 1) refl;
+      covers = (λ e. e, λ e. e);
     }
 
 line-sound : (n : Line) → LawfulLine n → (x y : ℤ) (t : Bool) → SoundAt (lineRules t n) x y
 unfolding lineRules approxWhole
-line-sound n w x y true = alike-sound (exactRule n) x y (line-exact-le n w x y) (whole-some true (longer n) (shorter n) (long n w x y))
+line-sound n w x y true = alike-sound (exactRule n) x y (omega (arith, line-exact-lt n w x y)) (whole-some true (longer n) (shorter n) (long n w x y))
 line-sound n w x y false =
     let p = long n w x y in
     record {
-      exact-le = line-exact-le n w x y;
+      exact-le = omega (arith, line-exact-lt n w x y);
       exact-pos = whole-some true (longer n) (shorter n) p;
-      drawn-le = line-approx-le n w x y;
+      drawn-le = omega (arith, line-approx-lt n w x y);
       drawn-pos = whole-some false (longer n) (shorter n) p;
       off-pos = omega arith;
       touched = line-touched n w x y;
       near = line-near n w x y;
+      covers = (λ e. absurd (omega (arith, line-exact-lt n w x y)), λ e. absurd (omega (arith, line-approx-lt n w x y)));
     }
 
 pub sound : (s : Shape) (x y : ℤ) → shapeRefusal s ≡ 0 → SoundAt (rulesOf s) x y
@@ -107,3 +109,12 @@ sound (disc d) x y z = alike-sound (chordRule (discCover (d .radius) (d .x) (d .
 sound (ring g) x y z = alike-sound (chordRule (ringCover (g .radius) (g .width) (g .x) (g .y))) x y (ring-le (g .radius) (g .width) (g .x) (g .y) x y) (omega arith)
 sound (triangle t) x y z =
     alike-sound (triangleRule t) x y (cover-le (first t) (second t) (third t) x y) (cover-pos (first t) (second t) (third t))
+
+-- a line, exact or approximate, covers no pixel whole
+pub never-whole : (n : Line) (x y : ℤ) → shapeRefusal (line n) ≡ 0 → exactN (line n) x y < exactD (line n)
+unfolding rulesOf lineRules
+never-whole n x y z = go (n .exact)
+  where
+    go : (t : Bool) → lineRules t n .exact .part x y < lineRules t n .exact .whole
+    go true = line-exact-lt n (line-lawful n z) x y
+    go false = line-exact-lt n (line-lawful n z) x y

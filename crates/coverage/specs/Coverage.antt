@@ -72,6 +72,9 @@ rulesOf (triangle t) = alike (triangleRule t)
 abbrev pub exactN : Shape → ℤ → ℤ → ℕ
 exactN s = rulesOf s .exact .part
 
+abbrev pub exactD : Shape → ℕ
+exactD s = rulesOf s .exact .whole
+
 abbrev pub drawnN : Shape → ℤ → ℤ → ℕ
 drawnN s = rulesOf s .drawn .part
 

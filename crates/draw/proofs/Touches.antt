@@ -24,7 +24,7 @@ use Rattle.draw.specs.Touch.{keeps, touched, shapeByte, pageAfter, touch
 use Rattle.coverage.specs.inner.OnPage.{shapeOn}
 use Rattle.draw.specs.inner.View.{viewOf}
 
-same-test : (m n : ℕ) → (0 < m) ↔ (0 < n) → ltb 0 m ≡ ltb 0 n
+pub same-test : (m n : ℕ) → (0 < m) ↔ (0 < n) → ltb 0 m ≡ ltb 0 n
 same-test m n e = ⊎-elim (λ h. lt-ltb 0 m h ∙ sym (lt-ltb 0 n (e .0 h))) (λ h. le-ltb 0 m h ∙ sym (le-ltb 0 n (none h))) (lt-or-le 0 m)
   where
     none : m ≤ 0 → n ≤ 0

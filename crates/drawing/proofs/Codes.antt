@@ -1,14 +1,12 @@
 -- What is drawn in lights equal to codes is what blending codes as they stand leaves, with the bound that holds of it.
-use mathlib.Core.Bool.{false, cond}
+use mathlib.Core.Bool.{cond}
 use mathlib.Core.List.{List, [], _∷_}
 use mathlib.Core.Path.{_≡_, refl, sym, _∙_, ap, subst}
 use Prim.Native.Nat.{ℕ, _+_, _*_, _%_, _/_, _≤_, _<_}
 use native.Mathlib.Omega.{arith}
 use lib.Dec.{ltb}
-use lib.ListN.{length, getD, drop}
+use lib.ListN.{length, getD}
 use Rattle.numbers.specs.Fraction.{Frac}
-use Rattle.shapes.specs.declared.Basis.{Basis}
-use Rattle.shapes.specs.declared.Record.{Record}
 use Rattle.lights.specs.Codes.{codes}
 use Rattle.lights.proofs.Blend.{blend-byte}
 use Rattle.lights.proofs.Codes.{code-light, codes-fit}
@@ -16,53 +14,20 @@ use Rattle.page.proofs.Over.{over-ext}
 use Rattle.bound.specs.Exact.{Touch, whole, after, byteAfter, exactAfter}
 use Rattle.bound.specs.inner.Sound.{AllSound}
 use Rattle.bound.proofs.Codes.{byte-codes, exact-codes, bound-codes}
-use Rattle.lists.specs.Format.{headerSize, kindSize, offKind, kindOf, decoded, headerAt, basisOf, kindAt, sizeAt, recordAt}
+use Rattle.lists.specs.Format.{headerAt, basisOf}
 use Rattle.lists.specs.List.{Records, accepted, refused, headerRefusal, recordsOf, pageRecords, checkedAs}
-use Rattle.lists.specs.Drawing.{Drawing, drawings, drawingsFrom}
-use Rattle.lists.specs.Settings.{start, inForce}
-use Rattle.lists.specs.inner.Walk.{playersIn}
+use Rattle.lists.specs.Drawing.{Drawing, drawings}
 use Rattle.lists.specs.declared.format.Header.{Header}
-use Rattle.lists.specs.declared.settings.Settings.{Settings}
-use Rattle.lists.proofs.Accepted.{Holds, last, more, list-holds}
-use Rattle.lists.proofs.Bytes.{known-kind, each-kind, kind-found}
-use Rattle.lists.proofs.Left.{start-player, player-kept}
-use Rattle.lists.proofs.Refusals.{readable}
 use Rattle.lists.proofs.Walkable.{room}
-use Rattle.lists.proofs.WriteBack.{AllBytes, drop-bytes}
+use Rattle.lists.proofs.WriteBack.{AllBytes}
 use Rattle.drawing.specs.Touches.{touchesAt}
 use Rattle.drawing.specs.Page.{drawnPage}
 use Rattle.drawing.specs.Claim.{pageBy, ByteBounded, Bounded, ClaimBy, Claim}
 use Rattle.drawing.specs.Codes.{codesPage, CodeBounded, CodesBounded, CodesClaimBy, CodesClaim}
 use Rattle.drawing.specs.inner.Walk.{AllLawful}
 use Rattle.drawing.specs.declared.Outcome.{Outcome}
-use Rattle.drawing.proofs.Records.{lawful-then}
 use Rattle.drawing.proofs.Bytes.{touches-sound, byte-is}
-
--- ---- the drawings of a list of bytes are lawful
-
--- a level that is read is a byte
-level-kept : (f : Settings) (s : List ℕ) → AllBytes s → f .level ≤ 255 → (k : ℕ) → 0 < kindSize k → inForce f (decoded k s) .level ≤ 255
-unfolding decoded inForce
-level-kept f s bytes byte =
-    each-kind (λ k. inForce f (decoded k s) .level ≤ 255) (((((((((((tt, byte), byte), omega (arith, bytes 1)), byte), byte), byte), byte), byte), byte), byte), byte)
-
-drawings-lawful : (b : Basis) (f : Settings) (s : List ℕ) (rs : List Record) → Holds b s rs → AllBytes s → f .level ≤ 255 → f .player < playersIn (b .version)
-    → AllLawful (b .version) (drawingsFrom f rs)
-unfolding drawingsFrom AllLawful
-drawings-lawful b f s _ (last none k e) bytes byte player = lawful-then b f (recordAt s) [] (readable b s none .lawful) byte player tt
-drawings-lawful b f s _ (more {rs = rs} none k h) bytes byte player =
-    let d = readable b s none in
-    let known = known-kind (b .version) (kindAt s) (d .kind) in
-    let kind : offKind (b .version) (kindOf (recordAt s)) ≡ false = rw (kind-found (kindAt s) s known) (d .kind) in
-    lawful-then b f (recordAt s) (drawingsFrom (inForce f (recordAt s)) rs) (d .lawful) byte player
-    (drawings-lawful b (inForce f (recordAt s)) (drop (sizeAt s) s) rs h (drop-bytes (sizeAt s) s bytes) (level-kept f s bytes byte (kindAt s) known)
-    (player-kept b f (recordAt s) kind (d .lawful) player))
-
-start-level : (b : Basis) → start b .level ≤ 255
-unfolding start
-start-level b = omega arith
-
--- ---- the claim
+use Rattle.drawing.proofs.Lawful.{list-lawful}
 
 -- what is known of an accepted list of bytes
 abbrev Known : Header → Records → List ℕ → Type 0
@@ -121,9 +86,8 @@ codes-claim s l {r} {m} bytes c =
   where
     known : (x : Records) → pageRecords s (length l) codes ≡ x → Known (headerAt s) x l
     known (refused f place) e = tt
-    known (accepted rs) e =
-        let b = basisOf (headerAt s) in (
-          room s (length l) codes (headerAt s) (sym (ap (checkedAs (headerAt s)) e)),
-          omega (arith, bytes 9),
-          drawings-lawful b (start b) (drop headerSize s) rs (list-holds _ s rs e) (drop-bytes headerSize s bytes) (start-level b) (start-player b),
-        )
+    known (accepted rs) e = (
+      room s (length l) codes (headerAt s) (sym (ap (checkedAs (headerAt s)) e)),
+      omega (arith, bytes 9),
+      list-lawful codes s (length l) rs bytes e,
+    )

@@ -3,5 +3,9 @@ pub mod Shapes
 pub mod Players
 pub mod Records
 pub mod Bytes
+pub mod Lawful
+pub mod Covers
 pub mod Claim
+pub mod Zone
+pub mod Margin
 pub mod Codes

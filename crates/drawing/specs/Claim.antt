@@ -54,7 +54,8 @@ pub record ClaimBy (lights : List ℕ) (d : Header) (x : Records) (l : List ℕ)
   -- each byte is what blending leaves from the background on; past the page, and after a refusal, each is as it was
   pub page : m ≡ pageBy lights d x l
   -- the light of each byte is no further from the exact, never rounded blend in light than half the widest gap between neighbouring
-  -- lights for each shape that touched the pixel, plus the last light less the first times s/(4·l) for each approximate line among them
+  -- lights for each shape that touched the pixel after the last that covered it whole, plus the last light less the first times s/(4·l)
+  -- for each approximate line among them
   pub bound : Bounded lights d x m
   -- eight counts are told, each player's own; after a refusal there are none
   pub counts : Counted (d .version) (d .w) (d .h) (drawingsBy d x) (r .touched)

@@ -40,8 +40,8 @@ pub record CodesClaimBy (d : Header) (x : Records) (l : List ℕ) (r : Outcome) 
   pub answer : r .answer ≡ answerBy d x
   -- each byte is what blending codes leaves from the background on; past the page, and after a refusal, each is as it was
   pub page : m ≡ codesPage d x l
-  -- each byte is no further from the exact, never rounded blend than half a level for each shape that touched the pixel, plus
-  -- 255·s/(4·l) for each of those that was an approximate line
+  -- each byte is no further from the exact, never rounded blend than half a level for each shape that touched the pixel after the last
+  -- that covered it whole, plus 255·s/(4·l) for each of those that was an approximate line
   pub bound : CodesBounded d x m
   -- eight counts are told, each player's own; after a refusal there are none
   pub counts : Counted (d .version) (d .w) (d .h) (drawingsBy d x) (r .touched)

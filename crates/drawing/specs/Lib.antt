@@ -3,5 +3,8 @@ pub mod Touches
 pub mod Page
 pub mod Counts
 pub mod Claim
+pub mod Cover
+pub mod Zone
+pub mod Margin
 pub mod Codes
 pub mod inner

@@ -31,6 +31,20 @@ within-same p q b e =
     let k = simp ring at (ap (λ (x : ℕ). b .den * x) e) in
     (simp ring (omega arith), simp ring (omega arith))
 
+-- sums keep the order
+pub ⊕-le : (p q r : Frac) → p ≼ q → p ⊕ r ≼ q ⊕ r
+⊕-le p q r h = omega (arith, mul-le-mul-left (r .den * r .den) h)
+
+-- two sums are within the sum of what their parts are within
+sum-le : (p q a p′ q′ b : Frac) → p ≼ q ⊕ a → p′ ≼ q′ ⊕ b → p ⊕ p′ ≼ q ⊕ q′ ⊕ (a ⊕ b)
+sum-le p q a p′ q′ b h k =
+    let h′ = simp ring at (mul-le-mul-left (p′ .den * q′ .den * b .den) h) in
+    let k′ = simp ring at (mul-le-mul-left (p .den * q .den * a .den) k) in
+    simp ring (omega arith)
+
+pub within-sum : (p q a p′ q′ b : Frac) → Within p q a → Within p′ q′ b → Within (p ⊕ p′) (q ⊕ q′) (a ⊕ b)
+within-sum p q a p′ q′ b h k = (sum-le p q a p′ q′ b (h .0) (k .0), sum-le q p a q′ p′ b (h .1) (k .1))
+
 -- a wider bound
 pub within-wider : (p q a b : Frac) → 0 < a .den → a ≼ b → Within p q a → Within p q b
 within-wider p q a b pos h w = (wider p q (w .0), wider q p (w .1))

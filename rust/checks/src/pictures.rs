@@ -91,8 +91,8 @@ pub fn listed(header: Header, records: Vec<Record>) -> Listed {
     }
 }
 
-/// Up to ten short shapes, each at a level of its own and in version 2 of any player, on a page of
-/// at most eight by eight.
+/// Up to fourteen short shapes, each at a level of its own and in version 2 of any player, on a page of
+/// at most eight by eight; before some of them a clip is set, or set back to the whole page.
 pub fn small_picture(random: &mut Random) -> Listed {
     let header = Header {
         version: lawful_version(random),
@@ -101,14 +101,25 @@ pub fn small_picture(random: &mut Random) -> Listed {
         background: level(random),
     };
     let mut records = Vec::new();
-    for _ in 0..random.between(1, 10) {
+    for _ in 0..random.between(1, 14) {
         records.push(Record::Setting(Setting::Level(level(random))));
         if header.version == 2 {
             records.push(Record::Setting(Setting::Player(player(random))));
         }
+        if random.one_in(3) {
+            records.push(Record::Setting(Setting::Clip(next_clip(random, &header))));
+        }
         records.push(Record::Shape(short_shape(random, header.version)));
     }
     listed(header, records)
+}
+
+/// Most often the whole page, so that shapes still meet.
+fn next_clip(random: &mut Random, header: &Header) -> Clip {
+    match random.one_in(3) {
+        true => clip(random, header.width, header.height),
+        false => Clip::whole(header.width, header.height),
+    }
 }
 
 /// Mostly a line, as only a line is drawn with other than its exact coverage.

@@ -1,6 +1,5 @@
 //! Whole lists drawn: the library against the reference on random and damaged lists in many lights
-//! and on stored ones, the counts of the players, and each byte's light against the bound on its
-//! distance from the exact blend.
+//! and on stored ones, and the counts of the players.
 
 use checks::calls::answer;
 use checks::cases::{list_cases, rows};
@@ -8,23 +7,18 @@ use checks::classes::Tally;
 use checks::library;
 use checks::lights::{fit_lights, named, spoil_lights, FIT, UNFIT};
 use checks::listings::{damage, list};
-use checks::notation::triangle_of;
-use checks::pictures::{listed, page_for, picture, picture_of, small_picture, Listed};
+use checks::pictures::{listed, page_for, picture, picture_of, Listed};
 use checks::random::Random;
 use reference::coverage::{chord_cover, height};
-use reference::exact::{bound, byte_after, exact_blend, touches_at, within, BigFraction, Touch};
 use reference::format::{encode_header, encode_record, kind_of, Header, LONGEST_LIST};
-use reference::lights::{codes, widest_gap};
+use reference::lights::codes;
 use reference::list::{check, draw_list, Drawn};
-use reference::natural::Natural;
 use reference::page::page_length;
 use reference::refusal::Refused;
 use reference::shape::{Clip, Disc, Line, Record, Setting, Shape, PLAYERS};
 
 const PICTURES: u32 = 20_000;
 const DAMAGED: u32 = 20_000;
-const SMALL_PICTURES: u32 = 15_000;
-const LIT_PICTURES: u32 = 8_000;
 const SHARED_PICTURES: u32 = 4_000;
 /// Every class of input has to come up at least this often.
 const LEAST: u32 = 20;
@@ -124,7 +118,7 @@ fn stored_rows_agree() {
         let found = answer(&format!("lists {}", row.call));
         assert_eq!(found, row.answer, "{}", row.call);
     }
-    assert_eq!(rows.len(), 525);
+    assert_eq!(rows.len(), 628);
 }
 
 #[test]
@@ -423,183 +417,6 @@ fn counts_pass_32_bits() {
     let drawn = library::draw_list(&list, &mut page, &codes());
     assert_eq!(drawn.map(|drawn| drawn.touched), Ok(touched));
     assert_eq!((page[0], page[1023 * 1024]), (0, 255));
-}
-
-/// So many tenths of a fraction.
-fn tenths(whole: &BigFraction, count: u64) -> BigFraction {
-    BigFraction {
-        numerator: whole.numerator.times(&Natural::from(count)),
-        denominator: whole.denominator.times(&Natural::from(10)),
-    }
-}
-
-/// How a byte came about in lights of this name, and whether its light lies beyond nine tenths of
-/// its bound.
-fn byte_classes(name: &str, touches: &[Touch], near: bool) -> Vec<String> {
-    let approximate = touches.iter().filter(|touch| touch.apart.n > 0).count();
-    let count = touches.len().min(6);
-    let class = format!(
-        "{name}: {count} touches, {} approximate",
-        approximate.min(2)
-    );
-    let beyond = (!near).then(|| format!("{class}, beyond nine tenths"));
-    [class].into_iter().chain(beyond).collect()
-}
-
-/// The light of each byte lies within half the widest gap a touch, and the last light less the
-/// first times s/(4·l) a touch by an approximate line, of the blend by exact coverage that is never
-/// rounded.
-fn hold_to_bound(name: &str, lights: &[u16], listed: &Listed, tally: &mut Tally) {
-    let Listed { header, list, .. } = listed;
-    let (width, background) = (usize::from(header.width), header.background);
-    let mut page = vec![0xAA; page_length(header.width, header.height)];
-    let accepted = check(list, page.len(), lights).expect("a lawful list");
-    let picture = library::draw_list(list, &mut page, lights).expect("a lawful list");
-    let mut touched = [0; PLAYERS];
-    for (k, &byte) in page.iter().enumerate() {
-        let touches = touches_at(&accepted, (k % width) as u16, (k / width) as u16);
-        let exact = exact_blend(lights, background, &touches);
-        let bound = bound(lights, &touches);
-        let fits = within(lights, byte, &exact, &bound);
-        assert!(fits, "byte {k}: {list:02x?}, lights {lights:?}");
-        assert_eq!(byte, byte_after(lights, background, &touches));
-        let near = within(lights, byte, &exact, &tenths(&bound, 9));
-        tally.meet(byte_classes(name, &touches, near));
-        for touch in touches {
-            touched[usize::from(touch.player)] += 1;
-        }
-    }
-    assert_eq!(picture.touched, touched);
-    let triangles = accepted
-        .drawings
-        .iter()
-        .filter(|drawing| matches!(drawing.shape, Shape::Triangle(_)));
-    tally.meet(triangles.map(|_| format!("{name}: a triangle")).collect());
-}
-
-#[test]
-fn every_byte_is_within_the_bound() {
-    let mut random = Random::new(33);
-    let mut tally = Tally::default();
-    for _ in 0..SMALL_PICTURES {
-        let listed = small_picture(&mut random);
-        hold_to_bound("codes", &codes(), &listed, &mut tally);
-    }
-    let classes = [
-        "0 touches, 0 approximate",
-        "6 touches, 2 approximate",
-        "1 touches, 0 approximate, beyond nine tenths",
-        "1 touches, 1 approximate, beyond nine tenths",
-        "2 touches, 0 approximate, beyond nine tenths",
-        "2 touches, 1 approximate, beyond nine tenths",
-        "2 touches, 2 approximate",
-    ];
-    tally.require(classes.map(|class| format!("codes: {class}")).into(), LEAST);
-    tally.require(vec!["codes: a triangle".to_string()], LEAST);
-}
-
-#[test]
-fn every_byte_is_within_the_bound_in_any_lights() {
-    let mut random = Random::new(38);
-    let mut tally = Tally::default();
-    for _ in 0..LIT_PICTURES {
-        let listed = small_picture(&mut random);
-        let (name, lights) = fit_lights(&mut random);
-        hold_to_bound(name, &lights, &listed, &mut tally);
-    }
-    for name in FIT.into_iter().chain(["random"]) {
-        let classes = [
-            "1 touches, 0 approximate",
-            "2 touches, 1 approximate",
-            "a triangle",
-        ];
-        let classes = classes.map(|class| format!("{name}: {class}"));
-        tally.require(classes.into(), LEAST);
-    }
-    // Few blends fall into the widest gap where most gaps are narrower.
-    for name in ["wide", "offset", "even", "top", "last", "random"] {
-        let class = format!("{name}: 1 touches, 0 approximate, beyond nine tenths");
-        tally.require(vec![class], LEAST);
-    }
-}
-
-/// One pixel of this background, and a shape at this level.
-fn one_pixel(background: u8, level: u8, shape: Shape) -> Listed {
-    let header = Header {
-        version: 2,
-        width: 1,
-        height: 1,
-        background,
-    };
-    let level = Record::Setting(Setting::Level(level));
-    listed(header, vec![level, Record::Shape(shape)])
-}
-
-/// A line from the pixel's first corner to another.
-fn line_to(exact: bool, (x1, y1): (i16, i16)) -> Shape {
-    let (x0, y0) = (0, 0);
-    Shape::Line(Line {
-        exact,
-        x0,
-        y0,
-        x1,
-        y1,
-    })
-}
-
-/// A line along the pixel's lower side, and the triangle on one side of its diagonal.
-fn halves() -> [Shape; 2] {
-    let triangle = triangle_of([0, 0, 1, 0, 0, 1]);
-    [line_to(true, (1, 0)), Shape::Triangle(triangle)]
-}
-
-/// The byte of such a pixel, the exact blend and the bound.
-fn blended(lights: &[u16], listed: &Listed) -> (u8, BigFraction, BigFraction) {
-    let (_, page) = drawn_in(lights, &listed.list, &[9]);
-    let accepted = check(&listed.list, 1, lights).expect("a lawful list");
-    let touches = touches_at(&accepted, 0, 0);
-    let exact = exact_blend(lights, listed.header.background, &touches);
-    (page[0], exact, bound(lights, &touches))
-}
-
-fn fraction(numerator: u64, denominator: u64) -> BigFraction {
-    BigFraction {
-        numerator: Natural::from(numerator),
-        denominator: Natural::from(denominator),
-    }
-}
-
-/// From white to black, the rounding and the approximation of a diagonal go the same way.
-#[test]
-fn a_diagonal_reaches_the_bound() {
-    let lights = codes();
-    let (byte, exact, bound) = blended(&lights, &one_pixel(255, 0, line_to(false, (1, 1))));
-    assert_eq!(byte, 128);
-    assert!(within(&lights, 128, &exact, &bound));
-    assert!(!within(&lights, 129, &exact, &bound));
-    let without_the_half = fraction(255, 4);
-    assert!(!within(&lights, 128, &exact, &without_the_half));
-}
-
-/// Half of the code past the widest gap on the code before it is half that gap away from either.
-#[test]
-fn a_tie_in_the_widest_gap_reaches_the_bound() {
-    let gaps = [("gap", 199), ("first", 0), ("last", 254), ("wide", 9)];
-    let shapes = gaps
-        .iter()
-        .flat_map(|gap| halves().map(|shape| (*gap, shape)));
-    for ((name, before), shape) in shapes {
-        let (lights, after) = (named(name), before + 1);
-        let (byte, exact, bound) = blended(&lights, &one_pixel(before, after, shape));
-        assert_eq!(byte, after, "{name}");
-        assert!(within(&lights, byte, &exact, &bound), "{name}");
-        let gap = widest_gap(&lights);
-        assert!(within(&lights, byte, &exact, &fraction(gap, 2)), "{name}");
-        assert!(
-            !within(&lights, byte, &exact, &fraction(gap - 1, 2)),
-            "{name}"
-        );
-    }
 }
 
 /// After 12, 5, 1, 2, 3 and 21 and before every record; the page is as it was.

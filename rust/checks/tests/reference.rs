@@ -37,7 +37,7 @@ fn every_row_of_every_table() {
             count += 1;
         }
     }
-    assert_eq!(count, 550 + 222 + 706 + 426 + 454 + 525);
+    assert_eq!(count, 594 + 266 + 857 + 478 + 508 + 628);
 }
 
 #[test]

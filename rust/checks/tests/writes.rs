@@ -114,7 +114,7 @@ fn stored_rows_agree() {
         let found = answer(&format!("writes {}", row.call));
         assert_eq!(found.trim(), row.answer, "{}", row.call);
     }
-    assert_eq!(rows.len(), 426);
+    assert_eq!(rows.len(), 478);
 }
 
 #[test]

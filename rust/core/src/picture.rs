@@ -14,7 +14,8 @@ pub struct Picture {
 }
 
 /// Fills a page with the list's background and draws every shape of the list in order, in light.
-/// Bytes of the page past its last pixel are left alone.
+/// Bytes of the page past its last pixel are left alone. How far the light of a byte, or of a zone,
+/// may be from the exact blend is read from the list (R10.4 and R10.5 of docs/RULES.md).
 ///
 /// # Errors
 ///

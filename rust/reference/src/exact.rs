@@ -17,20 +17,40 @@ pub struct BigFraction {
 }
 
 impl BigFraction {
-    fn new(numerator: u64, denominator: u64) -> BigFraction {
+    pub fn new(numerator: u64, denominator: u64) -> BigFraction {
         BigFraction {
             numerator: Natural::from(numerator),
             denominator: Natural::from(denominator),
         }
     }
 
-    fn plus(&self, other: &BigFraction) -> BigFraction {
+    pub fn plus(&self, other: &BigFraction) -> BigFraction {
         let left = self.numerator.times(&other.denominator);
         let right = other.numerator.times(&self.denominator);
         BigFraction {
             numerator: left.plus(&right),
             denominator: self.denominator.times(&other.denominator),
         }
+    }
+
+    /// By cross products.
+    pub fn compare(&self, other: &BigFraction) -> Ordering {
+        let left = self.numerator.times(&other.denominator);
+        left.compare(&other.numerator.times(&self.denominator))
+    }
+
+    /// Whether the two are at most so far apart.
+    pub fn within(&self, other: &BigFraction, bound: &BigFraction) -> bool {
+        let left = self.numerator.times(&other.denominator);
+        let right = other.numerator.times(&self.denominator);
+        let distance = BigFraction {
+            numerator: match left.compare(&right) {
+                Ordering::Less => right.minus(&left),
+                _ => left.minus(&right),
+            },
+            denominator: self.denominator.times(&other.denominator),
+        };
+        distance.compare(bound) != Ordering::Greater
     }
 }
 
@@ -43,6 +63,13 @@ pub struct Touch {
     pub exact: Fraction,
     /// How far the two coverages may be apart: s over 4·l for an approximate line, else nothing.
     pub apart: Fraction,
+}
+
+impl Touch {
+    /// Whether the shape covers the pixel whole, by its exact coverage.
+    pub fn covers(&self) -> bool {
+        self.exact.n == self.exact.d
+    }
 }
 
 /// The shapes of an accepted list that touch a pixel, in the list's order.
@@ -97,7 +124,7 @@ pub fn exact_blend(lights: &[u16], background: u8, touches: &[Touch]) -> BigFrac
 }
 
 /// Half the widest gap for each touch, and the span times what its coverage may be off.
-pub fn bound(lights: &[u16], touches: &[Touch]) -> BigFraction {
+pub fn margins(lights: &[u16], touches: &[Touch]) -> BigFraction {
     let (gap, span) = (widest_gap(lights), span(lights));
     let start = BigFraction::new(0, 1);
     touches.iter().fold(start, |sum, touch| {
@@ -106,17 +133,20 @@ pub fn bound(lights: &[u16], touches: &[Touch]) -> BigFraction {
     })
 }
 
-/// Whether the distance of the byte's light from the exact blend is at most the bound, by cross
-/// products.
+/// The touches after the last that covers the pixel whole; all of them where none does.
+pub fn since_cover(touches: &[Touch]) -> &[Touch] {
+    let last = touches.iter().rposition(Touch::covers);
+    &touches[last.map_or(0, |last| last + 1)..]
+}
+
+/// The margins of the touches that count.
+pub fn bound(lights: &[u16], touches: &[Touch]) -> BigFraction {
+    margins(lights, since_cover(touches))
+}
+
+/// Whether the distance of the byte's light from the exact blend is at most the bound.
 pub fn within(lights: &[u16], byte: u8, exact: &BigFraction, bound: &BigFraction) -> bool {
-    let shown = Natural::from(light(lights, byte)).times(&exact.denominator);
-    let distance = match shown.compare(&exact.numerator) {
-        Ordering::Less => exact.numerator.minus(&shown),
-        _ => shown.minus(&exact.numerator),
-    };
-    let left = distance.times(&bound.denominator);
-    let right = bound.numerator.times(&exact.denominator);
-    left.compare(&right) != Ordering::Greater
+    BigFraction::new(light(lights, byte), 1).within(exact, bound)
 }
 
 #[cfg(test)]
@@ -165,6 +195,45 @@ mod tests {
         // The bound is 5 there too, and the exact blend is 5 1/2 below the light of code 26.
         assert_eq!(byte_after(&lights, 20, &touches(21)), 21);
         assert_eq!([25, 26].map(|byte| fits(byte, 20, 21)), [true, false]);
+    }
+
+    /// A touch whose coverage is n over 512.
+    fn touch(n: u64, level: u8) -> Touch {
+        let coverage = Fraction { n, d: 512 };
+        Touch {
+            own: coverage,
+            exact: coverage,
+            ..half_touch(level)
+        }
+    }
+
+    #[test]
+    fn only_touches_after_the_last_whole_cover_count() {
+        let counted = |shares: &[u64]| {
+            let touches: Vec<Touch> = shares.iter().map(|&n| touch(n, 9)).collect();
+            since_cover(&touches).len()
+        };
+        assert_eq!(counted(&[]), 0);
+        assert_eq!(counted(&[1, 511, 256]), 3);
+        assert_eq!(counted(&[1, 511, 512]), 0);
+        assert_eq!(counted(&[512, 1, 511]), 2);
+        assert_eq!(counted(&[512, 1, 512, 2, 3, 4]), 3);
+        assert_eq!(counted(&[512, 512]), 0);
+    }
+
+    #[test]
+    fn right_after_a_whole_cover_only_the_level_fits() {
+        let lights = codes();
+        let fits = |shares: &[u64]| {
+            let touches: Vec<Touch> = shares.iter().map(|&n| touch(n, 77)).collect();
+            let exact = exact_blend(&lights, 3, &touches);
+            [76, 77, 78].map(|byte| within(&lights, byte, &exact, &bound(&lights, &touches)))
+        };
+        assert_eq!(fits(&[256, 1, 512]), [false, true, false]);
+        // 511 of 512 leave 77 too, but not the exact blend: the bound has to stay.
+        assert_eq!(fits(&[511]), [false, true, false]);
+        let exact = exact_blend(&lights, 3, &[touch(511, 77)]);
+        assert!(!within(&lights, 77, &exact, &BigFraction::new(0, 1)));
     }
 
     #[test]

@@ -17,3 +17,4 @@ pub mod refusal;
 pub mod shape;
 pub mod triangle;
 pub mod writer;
+pub mod zone;

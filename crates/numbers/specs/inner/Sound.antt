@@ -1,5 +1,6 @@
 -- What every rule of coverage promises of a pixel.
 use mathlib.Core.Logic.{_↔_}
+use mathlib.Core.Path.{_≡_}
 use Prim.Native.Nat.{_≤_, _<_}
 use Rattle.numbers.specs.Fraction.{Frac, Within}
 
@@ -12,3 +13,5 @@ pub record Sound (drawn exact off : Frac) : Type 0 where
   pub off-pos : 0 < off .den
   pub touched : (0 < exact .num) ↔ (0 < drawn .num)
   pub near : Within drawn exact off
+  -- both are whole at the same pixels
+  pub covers : (exact .num ≡ exact .den) ↔ (drawn .num ≡ drawn .den)
