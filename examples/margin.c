@@ -2,8 +2,9 @@
  *
  * Tells the margin of a zone, the pixels with X0 <= x < X1 and Y0 <= y < Y1, after each shape of a
  * list: how far the light of the zone may be from that of the exact blend, which never rounds
- * (R10.4, R10.5). Then it draws the list, and sums the light of the zone. The screen shows each code
- * in proportion; for another fill in its lights.
+ * (R10.4, R10.5), in thousandths and rounded up. Then it draws the list, and sums the light of the
+ * zone. The screen shows each code in proportion; for another fill in its lights. The exit status is
+ * 0, 1 where the list is refused and 2 for anything else, such as a zone that is not on the page.
  *
  * Each pixel has a margin, 0 at first. A shape that covers it whole, inside the clip in force,
  * leaves the level itself, and the margin is 0 again. Any other touch adds its own. */
@@ -96,17 +97,24 @@ static uint64_t light(uint32_t w, struct greystroke_clip zone) {
     return sum;
 }
 
-static uint32_t number(const char *word) {
-    return (uint32_t)strtoul(word, NULL, 10);
+/* Whether a word is a number from 0 to the longest side of a page, and which. A zone that was
+ * mistyped must not be told a margin. */
+static int number(const char *word, uint32_t *value) {
+    char *end;
+    unsigned long read = strtoul(word, &end, 10);
+    if (*word < '0' || *word > '9' || *end != 0 || read > SIDE)
+        return 0;
+    *value = (uint32_t)read;
+    return 1;
 }
 
 int main(int argc, char **argv) {
-    if (argc != 5) {
+    struct greystroke_clip zone;
+    if (argc != 5 || !number(argv[1], &zone.x0) || !number(argv[2], &zone.y0) ||
+        !number(argv[3], &zone.x1) || !number(argv[4], &zone.y1)) {
         fprintf(stderr, "usage: margin X0 Y0 X1 Y1 < LIST\n");
         return 2;
     }
-    struct greystroke_clip zone = {
-        number(argv[1]), number(argv[2]), number(argv[3]), number(argv[4])};
     size_t length = fread(list, 1, sizeof list, stdin);
     greystroke_code_lights(lights);
     struct greystroke_check_answer checked =
@@ -115,8 +123,9 @@ int main(int argc, char **argv) {
         printf("refused %" PRIu32 " at %zu\n", checked.refusal, checked.place);
         return 1;
     }
-    if (zone.x1 > checked.basis.w || zone.y1 > checked.basis.h) {
-        fprintf(stderr, "margin: the zone is not on the page\n");
+    if (zone.x0 >= zone.x1 || zone.x1 > checked.basis.w || zone.y0 >= zone.y1 ||
+        zone.y1 > checked.basis.h) {
+        fprintf(stderr, "margin: the zone has no pixel, or is not on the page\n");
         return 2;
     }
     tell_margins(length, checked.basis, zone);
