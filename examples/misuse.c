@@ -65,6 +65,17 @@ static bool same(struct greystroke_basis one, struct greystroke_basis other) {
         }                                                               \
     } while (0)
 
+/* The same of a check: a refused list has neither a header nor a ceiling. */
+#define CHECK_REFUSED(number, at, call)                                              \
+    do {                                                                             \
+        struct greystroke_check_answer got = call;                                   \
+        expect(#call, got.refusal, got.place, (uint32_t)(number), (at));             \
+        if (!same(got.basis, none) || got.background != 0 || got.ceiling != 0) {     \
+            wrong = true;                                                            \
+            printf("%s: more is told than the refusal\n", #call);                    \
+        }                                                                            \
+    } while (0)
+
 /* ---- calls with fit lights ---- */
 
 static struct greystroke_draw_answer draw_shape(uint8_t *bytes, size_t length, uint32_t w,
@@ -443,8 +454,15 @@ static void expect_touches(struct greystroke_list_answer drawn, size_t player) {
         }
 }
 
+/* A refusal of the header comes before those of the page and the lights, and one of the records
+ * after them; without a page neither of the two is tried. */
 static void try_list(uint32_t number, size_t place, const uint8_t *bytes, size_t length) {
-    REFUSED(check, number, place, check_list(bytes, length, sizeof page));
+    CHECK_REFUSED(number, place, check_list(bytes, length, sizeof page));
+    CHECK_REFUSED(number, place, greystroke_check_without_page(bytes, length));
+    CHECK_REFUSED(place > 0 ? GREYSTROKE_PAGE_TOO_SHORT : number, 0,
+        greystroke_check_list(bytes, length, sizeof page - 1, NULL, 0));
+    CHECK_REFUSED(place > 0 ? GREYSTROKE_LIGHTS : number, 0,
+        greystroke_check_list(bytes, length, sizeof page, NULL, 0));
     REFUSED(list, number, place, draw_list(page, sizeof page, bytes, length));
     expect_touches(draw_list(page, sizeof page, bytes, length), PLAYERS);
 }
@@ -470,7 +488,7 @@ static void try_lengths(void) {
     memcpy(long_list, list, length);
     try_list(GREYSTROKE_LIST_TOO_LONG, 0, long_list, sizeof long_list);
     for (size_t n = 0; n < sizeof page; n++) {
-        REFUSED(check, GREYSTROKE_PAGE_TOO_SHORT, 0, check_list(list, length, n));
+        CHECK_REFUSED(GREYSTROKE_PAGE_TOO_SHORT, 0, check_list(list, length, n));
         REFUSED(list, GREYSTROKE_PAGE_TOO_SHORT, 0, draw_list(page, n, list, length));
     }
     REFUSED(list, GREYSTROKE_PAGE_TOO_SHORT, 0, draw_list(NULL, 0, list, length));
@@ -479,21 +497,21 @@ static void try_lengths(void) {
 /* Unfit lights for a list: at place 0, before its records and after its header and the page. */
 static void try_list_lights(const uint16_t *unfit, size_t length) {
     size_t list_length = starts[records - 1];
-    REFUSED(check, GREYSTROKE_LIGHTS, 0,
+    CHECK_REFUSED(GREYSTROKE_LIGHTS, 0,
         greystroke_check_list(list, list_length, sizeof page, unfit, length));
     REFUSED(list, GREYSTROKE_LIGHTS, 0,
         greystroke_draw_list(page, sizeof page, unfit, length, list, list_length));
-    REFUSED(check, GREYSTROKE_LIGHTS, 0,
+    CHECK_REFUSED(GREYSTROKE_LIGHTS, 0,
         greystroke_check_list(list, starts[0], sizeof page, unfit, length));
     REFUSED(list, GREYSTROKE_LIGHTS, 0,
         greystroke_draw_list(page, sizeof page, unfit, length, list, list_length + 1));
-    REFUSED(check, GREYSTROKE_PAGE_TOO_SHORT, 0,
+    CHECK_REFUSED(GREYSTROKE_PAGE_TOO_SHORT, 0,
         greystroke_check_list(list, list_length, sizeof page - 1, unfit, length));
     REFUSED(list, GREYSTROKE_PAGE_TOO_SHORT, 0,
         greystroke_draw_list(NULL, 0, unfit, length, list, list_length));
     REFUSED(list, GREYSTROKE_CUT_SHORT, 0,
         greystroke_draw_list(NULL, 0, unfit, length, NULL, 0));
-    REFUSED(check, GREYSTROKE_LIST_TOO_LONG, 0,
+    CHECK_REFUSED(GREYSTROKE_LIST_TOO_LONG, 0,
         greystroke_check_list(long_list, sizeof long_list, 0, unfit, length));
 }
 
@@ -627,6 +645,19 @@ static void expect_half(int32_t x0, int32_t y0, int32_t x1, int32_t y1, int32_t 
     }
 }
 
+/* What the shapes of the list count on 8 by 8 pixels: two lines 3 * 4 each, disc and ring 4 * 3 * 3
+ * each, the big ones all 64 each, and the triangle 4 * 6. */
+enum { CEILING = 2 * 12 + 2 * 36 + 2 * 64 + 24 };
+
+static void expect_checked(struct greystroke_check_answer answer) {
+    if (answer.refusal != 0 || answer.place != 0 || !same(answer.basis, basis_2)
+        || answer.background != 9 || answer.ceiling != CEILING) {
+        wrong = true;
+        printf("the list was not checked: %u, ceiling %llu\n", (unsigned)answer.refusal,
+            (unsigned long long)answer.ceiling);
+    }
+}
+
 /* What is lawful is taken. */
 static void try_lawful(void) {
     static const struct greystroke_clip corner = {6, 6, SIDE, SIDE};
@@ -648,11 +679,12 @@ static void try_lawful(void) {
     expect_read(PLAYER_RECORD, GREYSTROKE_KIND_PLAYER, player);
     for (size_t s = 0; s < COUNT(lawful); s++)
         expect_read(FIRST_SHAPE + s, lawful[s].kind, lawful[s].numbers);
-    struct greystroke_check_answer checked = check_list(list, length, sizeof page);
+    expect_checked(check_list(list, length, sizeof page));
+    expect_checked(greystroke_check_without_page(list, length));
     struct greystroke_list_answer drawn =
         draw_list(page, sizeof page, list, length);
-    if (checked.refusal != 0 || !same(checked.basis, basis_2) || checked.background != 9
-        || drawn.refusal != 0 || drawn.w != SIDE || drawn.h != SIDE) {
+    if (drawn.refusal != 0 || drawn.w != SIDE || drawn.h != SIDE
+        || drawn.touched[PLAYER] > CEILING) {
         wrong = true;
         printf("the list was not drawn\n");
     }

@@ -22,10 +22,11 @@
  * refused, and nothing is narrowed in silence.
  *
  * Answers. Each begins with `refusal`, 0 for none, and `place`, the place of the refusal (R8.3):
- * the list's place for greystroke_draw_list and greystroke_check_list, 0 for every other call, and
- * 0 where nothing is refused. After a refusal all that was lent is as it was (R8.1), and the
- * further fields are 0, but for what a writer holds. Where several refusals apply, the first in
- * the order that is given for the call is told. */
+ * the list's place for greystroke_draw_list, greystroke_check_list and
+ * greystroke_check_without_page, 0 for every other call, and 0 where nothing is refused. After a
+ * refusal all that was lent is as it was (R8.1), and the further fields are 0, but for what a
+ * writer holds. Where several refusals apply, the first in the order that is given for the call is
+ * told. */
 #ifndef GREYSTROKE_H
 #define GREYSTROKE_H
 
@@ -36,8 +37,9 @@
 extern "C" {
 #endif
 
-/* The version of this interface: it grows where a program must be changed to be linked again. */
-#define GREYSTROKE_VERSION 3
+/* The version of this interface: it grows where a program must be changed, or at least compiled
+ * again, to be linked again. */
+#define GREYSTROKE_VERSION 4
 
 /* ---- refusals (R8.1) ---- */
 
@@ -245,12 +247,17 @@ struct greystroke_list_answer greystroke_draw_list(
     uint8_t *page, size_t page_length, const uint16_t *lights, size_t lights_length,
     const uint8_t *list, size_t list_length);
 
-/* What the list's header says: its version, W and H, and its background. */
+/* What the list's header says: its version, W and H, and its background; and the ceiling of its
+ * touches: each line counts three times its longer span, each disc or ring four times its radius
+ * squared, each triangle its width times its height, and none more than the pixels of the clip in
+ * force (R6.6). The eight counts of a drawn list never add up to more (R10.6). A refused list has
+ * no ceiling. */
 struct greystroke_check_answer {
     uint32_t refusal;
     size_t place;
     struct greystroke_basis basis;
     uint8_t background;
+    uint64_t ceiling;
 };
 
 /* Checks a list as greystroke_draw_list does for a page of so many bytes and these lights: the same
@@ -258,6 +265,11 @@ struct greystroke_check_answer {
 struct greystroke_check_answer greystroke_check_list(
     const uint8_t *list, size_t list_length, size_t page_length, const uint16_t *lights,
     size_t lights_length);
+
+/* Checks a list before there is a page or lights for it: the same refusals but 21 and 32, in the
+ * same order, at the same places (R8.2), and of an accepted list the same answer. */
+struct greystroke_check_answer greystroke_check_without_page(
+    const uint8_t *list, size_t list_length);
 
 /* ---- one record read ---- */
 

@@ -52,7 +52,7 @@ chords-steep Y a b h =
 
 -- ---- discs and rings
 
-folded-diff : {z : ℤ} {x c : ℕ} → Diff z x c → folded z ≡ apart c x
+pub folded-diff : {z : ℤ} {x c : ℕ} → Diff z x c → folded z ≡ apart c x
 unfolding folded
 folded-diff (above p) = omega arith
 folded-diff (below p) = omega arith

@@ -227,7 +227,7 @@ module _ (exact : Bool) (l s r : ℕ) (short : s ≤ l) (rest : r < 2 * l) where
 
 -- row g − b above row q, by g + 1 − b
 module _ (c : Rows) (g b : ℕ) where
-  row-from : {k : ℤ} → Diff k g b → atRow c k ≡ atRow c (subℕ g b)
+  pub row-from : {k : ℤ} → Diff k g b → atRow c k ≡ atRow c (subℕ g b)
   row-from e = ap (atRow c) (diff-unique e (diff-sub g b) (omega arith))
 
   pub row-below : g + 1 < b → 0 ≡ atRow c (subℕ g b)

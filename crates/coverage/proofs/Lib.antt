@@ -11,4 +11,5 @@ pub mod Height
 pub mod Chord
 pub mod Query
 pub mod Soundness
+pub mod Outside
 pub mod Strokes

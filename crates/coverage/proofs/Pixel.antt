@@ -27,12 +27,12 @@ unfolding inColumns
 in-columns l rule (above {n = n} {a = a} {b = b} p) h k = let e : n ≡ a - b = omega arith in rw (lt-ltb n l (omega arith)) (ap rule e)
 in-columns l rule (below p) h k = absurd (omega arith)
 
-out-left : (l : ℕ) (rule : ℕ → ℤ) {z : ℤ} {a b : ℕ} → Diff z a b → a < b → inColumns l rule z ≡ pos 0
+pub out-left : (l : ℕ) (rule : ℕ → ℤ) {z : ℤ} {a b : ℕ} → Diff z a b → a < b → inColumns l rule z ≡ pos 0
 unfolding inColumns
 out-left l rule (above p) h = absurd (omega arith)
 out-left l rule (below p) h = refl
 
-out-right : (l : ℕ) (rule : ℕ → ℤ) {z : ℤ} {a b : ℕ} → Diff z a b → b + l ≤ a → inColumns l rule z ≡ pos 0
+pub out-right : (l : ℕ) (rule : ℕ → ℤ) {z : ℤ} {a b : ℕ} → Diff z a b → b + l ≤ a → inColumns l rule z ≡ pos 0
 unfolding inColumns
 out-right l rule (above {n = n} p) h = rw (le-ltb n l (omega arith))
 out-right l rule (below p) h = absurd (omega arith)

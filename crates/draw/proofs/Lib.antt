@@ -3,3 +3,4 @@ pub mod Refusals
 pub mod Touches
 pub mod OfKind
 pub mod Column
+pub mod Ceiling

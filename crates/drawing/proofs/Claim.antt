@@ -15,7 +15,7 @@ use Rattle.lists.specs.Settings.{start}
 use Rattle.lists.specs.inner.Walk.{listDrawings}
 use Rattle.lists.specs.declared.format.Header.{Header}
 use Rattle.lists.specs.declared.check.Checked.the-variants.{Accepted, Refused}
-use Rattle.lists.proofs.Left.{start-clip}
+use Rattle.lists.proofs.InForce.{start-clip}
 use Rattle.lists.proofs.Walkable.{found, room, lit, list-walkable, drawings-are}
 use Rattle.draw.proofs.Refusals.{view-lawful}
 use Rattle.drawing.specs.Touches.{touchesAt}
@@ -47,12 +47,12 @@ refused-claim lights s l f place e = go (pageRecords s (length l) lights) e
         record { answer = rw (a, b); page = refl; bound = tt; counts = counted (d .version) (d .w) (d .h) [] (replicate 8 0) tt (none-counted (d .w) (d .h)) }
 
 -- one that it accepts with the header d
-module _ (lights s l : List ℕ) (d : Header) (e : Accepted d ≡ checkedOf s (length l) lights) where
+module _ (lights s l : List ℕ) (d : Header) (t : ℕ) (e : Accepted d t ≡ checkedOf s (length l) lights) where
   fits : d .w * d .h ≤ length l
-  fits = room s (length l) lights d e
+  fits = room s (length l) lights d t e
 
   pub fit : Fit lights
-  fit = lit s (length l) lights d e
+  fit = lit s (length l) lights d t e
 
   -- the page's W·H bytes are lent
   abbrev lent : List ℕ
@@ -65,7 +65,7 @@ module _ (lights s l : List ℕ) (d : Header) (e : Accepted d ≡ checkedOf s (l
   lent-room = fits
 
   pub lent-drawable : Drawable s (basisOf d) (length lent)
-  lent-drawable = let k = lent-length in record { walk = list-walkable (found s (length l) lights d e); room = omega arith }
+  lent-drawable = let k = lent-length in record { walk = list-walkable (found s (length l) lights d t e); room = omega arith }
 
   pub few : d .w * d .h < 2 ^ 64
   few =
@@ -74,11 +74,11 @@ module _ (lights s l : List ℕ) (d : Header) (e : Accepted d ≡ checkedOf s (l
       omega (arith, mul-le-mul {n₁ = d .w} {m₁ = d .h} {n₂ = 1024} {m₂ = 1024} (law .w-most) (law .h-most))
 
   abbrev ds : List Drawing
-  ds = drawings (basisOf d) (found s (length l) lights d e .records)
+  ds = drawings (basisOf d) (found s (length l) lights d t e .records)
 
   -- the walk over the list draws these
   same : listDrawings (basisOf d) s ≡ ds
-  same = drawings-are (found s (length l) lights d e)
+  same = drawings-are (found s (length l) lights d t e)
 
   -- it left p of what was lent, and touched ts pixels by player
   module _ {p ts : List ℕ} (done : ListPainted lights (basisOf d) (d .background) (listDrawings (basisOf d) s) lent p ts) where
@@ -99,7 +99,7 @@ module _ (lights s l : List ℕ) (d : Header) (e : Accepted d ≡ checkedOf s (l
         subst (λ (m : List ℕ). ByteBounded lights (getD m (y * d .w + x) 0) (d .background) (touchesAt ds x y)) (sym page-is)
         (all-bounded lights fit (d .version) (d .w) (d .h) (d .background) ds l fits (painted .byte) (painted .lawful) x y i j)
 
-    records-claim : ClaimBy lights d (accepted (found s (length l) lights d e .records)) l outcome whole
+    records-claim : ClaimBy lights d (accepted (found s (length l) lights d t e .records)) l outcome whole
     unfolding answerBy drawingsBy pageBy Bounded
     records-claim =
         record {
@@ -111,8 +111,8 @@ module _ (lights s l : List ℕ) (d : Header) (e : Accepted d ≡ checkedOf s (l
 
     pub accepted-claim : Claim lights s l outcome whole
     accepted-claim =
-        subst (λ (q : Header). ClaimBy lights q (pageRecords s (length l) lights) l outcome whole) (found s (length l) lights d e .header)
-        (subst (λ (x : Records). ClaimBy lights d x l outcome whole) (sym (found s (length l) lights d e .is)) records-claim)
+        subst (λ (q : Header). ClaimBy lights q (pageRecords s (length l) lights) l outcome whole) (found s (length l) lights d t e .header)
+        (subst (λ (x : Records). ClaimBy lights d x l outcome whole) (sym (found s (length l) lights d t e .is)) records-claim)
 
 -- what comes of a list is its answer and its counts
 pub claimed-outcome : {lights : List ℕ} {d : Header} {x : Records} {l m : List ℕ} {r : Outcome} → ClaimBy lights d x l r m → r ≡ outcomeBy d x

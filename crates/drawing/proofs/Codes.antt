@@ -87,7 +87,7 @@ codes-claim s l {r} {m} bytes c =
     known : (x : Records) → pageRecords s (length l) codes ≡ x → Known (headerAt s) x l
     known (refused f place) e = tt
     known (accepted rs) e = (
-      room s (length l) codes (headerAt s) (sym (ap (checkedAs (headerAt s)) e)),
+      room s (length l) codes (headerAt s) _ (sym (ap (checkedAs (headerAt s)) e)),
       omega (arith, bytes 9),
       list-lawful codes s (length l) rs bytes e,
     )

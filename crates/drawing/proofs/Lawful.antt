@@ -15,7 +15,7 @@ use Rattle.lists.specs.inner.Walk.{playersIn}
 use Rattle.lists.specs.declared.settings.Settings.{Settings}
 use Rattle.lists.proofs.Accepted.{Holds, last, more, list-holds}
 use Rattle.lists.proofs.Bytes.{known-kind, each-kind, kind-found}
-use Rattle.lists.proofs.Left.{start-player, player-kept}
+use Rattle.lists.proofs.InForce.{start-player, player-kept}
 use Rattle.lists.proofs.Refusals.{readable}
 use Rattle.lists.proofs.WriteBack.{AllBytes, drop-bytes}
 use Rattle.drawing.specs.inner.Walk.{AllLawful}

@@ -3,6 +3,7 @@ pub mod Shapes
 pub mod Players
 pub mod Records
 pub mod Bytes
+pub mod Ceiling
 pub mod Lawful
 pub mod Covers
 pub mod Claim

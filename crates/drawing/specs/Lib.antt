@@ -3,6 +3,7 @@ pub mod Touches
 pub mod Page
 pub mod Counts
 pub mod Claim
+pub mod Ceiling
 pub mod Cover
 pub mod Zone
 pub mod Margin

@@ -130,7 +130,7 @@ pub fn draw_list(page: &mut [u8], lights: &[u16], list: &[u8]) -> Outcome
             answer: Answer::Refused { refusal, place },
             touched: [0; PLAYERS],
         },
-        Checked::Accepted(header) => {
+        Checked::Accepted { header, ceiling: _ } => {
             let n = (header.w as usize) * (header.h as usize);
             let basis = lists::format::basis_of(header);
             let touched = paint_in(&mut page[..n], lights, kind, list, basis, header.background);

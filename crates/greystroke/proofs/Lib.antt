@@ -1,3 +1,4 @@
 -- The laws of the C interface.
 pub mod Held
 pub mod Refused
+pub mod Ceiling

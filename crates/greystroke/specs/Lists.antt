@@ -59,8 +59,9 @@ readAnswer (Refused refusal) =
 -- ---- checking
 
 abbrev pub checkAnswer : Checked → CheckAnswer
-checkAnswer (Accepted d) = record { refusal = 0; place = 0; basis = basisGiven (basisOf d); background = d .background }
-checkAnswer (CheckRefused refusal place) = record { refusal = refusal; place = place; basis = basisGiven (basisBy 0 0 0); background = 0 }
+checkAnswer (Accepted d ceiling) = record { refusal = 0; place = 0; basis = basisGiven (basisOf d); background = d .background; ceiling = ceiling }
+checkAnswer (CheckRefused refusal place) =
+    record { refusal = refusal; place = place; basis = basisGiven (basisBy 0 0 0); background = 0; ceiling = 0 }
 
 -- ---- writing
 

@@ -14,9 +14,10 @@ use shapes::Shape;
 use shapes::Triangle;
 ghost use mathlib.Core.Path.{_≡_};
 ghost use lib.IntN.{pos};
-ghost use Rattle.lists.specs.Format.{kindSize};
+ghost use Rattle.lists.specs.Format.{kindSize, headerAt};
 ghost use Rattle.lists.specs.Read.{readingOf};
-ghost use Rattle.lists.specs.List.{checkedOf};
+ghost use Rattle.lists.specs.List.{pageRecords, checkedOf, pagelessRecords, checkedWithoutPage};
+ghost use Rattle.drawing.specs.Ceiling.{TouchesWithin};
 ghost use Rattle.greystroke.specs.Taken.{basisTaken};
 ghost use Rattle.greystroke.specs.Lists.{sixBy, numberedBy, recordAnswer, readAnswer, checkAnswer};
 
@@ -30,13 +31,14 @@ pub struct ReadAnswer {
     pub numbers: [i32; 6],
 }
 
-// The header of a list where refusal is 0; else the place of the refusal, and zeros.
+// The header of a list and the ceiling of its touches where refusal is 0; else the place of the refusal, and zeros.
 #[repr(C)]
 pub struct CheckAnswer {
     pub refusal: u32,
     pub place: usize,
     pub basis: GivenBasis,
     pub background: u8,
+    pub ceiling: u64,
 }
 
 // A signed and an unsigned number in 32 bits.
@@ -198,11 +200,12 @@ fn check_answer(checked: Checked) -> CheckAnswer
     ensures { λ r. ⌜ r ≡ checkAnswer checked ⌝ }
 {
     match checked {
-        Checked::Accepted(header) => CheckAnswer {
+        Checked::Accepted { header, ceiling } => CheckAnswer {
             refusal: 0,
             place: 0,
             basis: basis_given(lists::format::basis_of(header)),
             background: header.background,
+            ceiling,
         },
         Checked::Refused { refusal, place } => CheckAnswer {
             refusal: refusal as u32,
@@ -213,6 +216,7 @@ fn check_answer(checked: Checked) -> CheckAnswer
                 h: 0,
             },
             background: 0,
+            ceiling: 0,
         },
     }
 }
@@ -229,6 +233,16 @@ pub extern "C" fn greystroke_read_record(list: &[u8], basis: GivenBasis) -> Read
 #[no_mangle]
 pub extern "C" fn greystroke_check_list(list: &[u8], page: usize, lights: &[u16]) -> CheckAnswer
     ensures { λ r. ⌜ r ≡ checkAnswer (checkedOf (now (list .entry)) page (now (lights .entry))) ⌝ }
+    ensures { λ r. ⌜ TouchesWithin (headerAt (now (list .entry))) (pageRecords (now (list .entry)) page (now (lights .entry))) (r .ceiling) ⌝ }
 {
     check_answer(lists::check::check_list(list, page, lights))
+}
+
+// Checks a whole list without a page.
+#[no_mangle]
+pub extern "C" fn greystroke_check_without_page(list: &[u8]) -> CheckAnswer
+    ensures { λ r. ⌜ r ≡ checkAnswer (checkedWithoutPage (now (list .entry))) ⌝ }
+    ensures { λ r. ⌜ TouchesWithin (headerAt (now (list .entry))) (pagelessRecords (now (list .entry))) (r .ceiling) ⌝ }
+{
+    check_answer(lists::check::check_without_page(list))
 }

@@ -88,10 +88,10 @@ pub record AcceptedAs (tests : List (Bool × ℕ)) (s : List ℕ) (d : Header) :
   pub is : recordsOf tests s ≡ accepted records
   pub header : d ≡ headerAt s
 
-pub checked-accepted : (tests : List (Bool × ℕ)) (s : List ℕ) (d : Header) → checkedAs (headerAt s) (recordsOf tests s) ≡ Accepted d → AcceptedAs tests s d
-checked-accepted tests s d e = go (recordsOf tests s) refl e
+pub checked-accepted : (tests : List (Bool × ℕ)) (s : List ℕ) (d : Header) (t : ℕ) → checkedAs (headerAt s) (recordsOf tests s) ≡ Accepted d t → AcceptedAs tests s d
+checked-accepted tests s d t e = go (recordsOf tests s) refl e
   where
-    go : (x : Records) → recordsOf tests s ≡ x → checkedAs (headerAt s) x ≡ Accepted d → AcceptedAs tests s d
+    go : (x : Records) → recordsOf tests s ≡ x → checkedAs (headerAt s) x ≡ Accepted d t → AcceptedAs tests s d
     go (accepted rs) k f = record { records = rs; is = k; header = cc }
     go (refused g place) k f = absurd (let z : _≡_ {A = ℕ} 0 1 = cc in omega arith)
 

@@ -71,15 +71,16 @@ pub kind-found : (k : ℕ) (s : List ℕ) → 0 < kindSize k → kindOf (decoded
 unfolding kindOf decoded
 kind-found k s = each-kind (λ j. kindOf (decoded j s) ≡ j) (((((((((((tt, refl), refl), refl), refl), refl), refl), refl), refl), refl), refl), refl) k
 
--- a record's kind is one of the rows, and none is longer than the array
-pub record-most : (r : Record) → length (recordBytes r) ≤ recordMost
+-- none is longer than the array
+pub size-most : (k : ℕ) → kindSize k ≤ recordMost
 unfolding kindSize
-record-most r =
-    let size = record-size r in
-    let rows : AllBelow 11 (λ j. kindSize j ≤ recordMost)
-    = (((((((((((tt, omega arith), omega arith), omega arith), omega arith), omega arith), omega arith), omega arith), omega arith), omega arith), omega arith), omega arith) in
-    let most = each-kind (λ j. kindSize j ≤ recordMost) rows (kindOf r) (omega arith) in
-    omega arith
+size-most k = ⊎-elim (each-kind (λ j. kindSize j ≤ recordMost) rows k) (λ h. omega arith) (lt-or-le 0 (kindSize k))
+  where
+    rows : AllBelow 11 (λ j. kindSize j ≤ recordMost)
+    rows = (((((((((((tt, omega arith), omega arith), omega arith), omega arith), omega arith), omega arith), omega arith), omega arith), omega arith), omega arith), omega arith)
+
+pub record-most : (r : Record) → length (recordBytes r) ≤ recordMost
+record-most r = omega (arith, record-size r, size-most (kindOf r))
 
 -- the first bytes of an array put into a list
 pub put-padded : (l : List ℕ) (place : ℕ) (bs : List ℕ) → paste l place (padded bs) (length bs) ≡ putAt place bs l

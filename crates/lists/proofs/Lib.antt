@@ -2,6 +2,8 @@
 pub mod Bytes
 pub mod Refusals
 pub mod Writes
+pub mod InForce
+pub mod Ceiling
 pub mod Walk
 pub mod Accepted
 pub mod Left

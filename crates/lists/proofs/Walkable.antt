@@ -44,9 +44,9 @@ module _ {tests : List (Bool × ℕ)} {s : List ℕ} {d : Header} (p : AcceptedA
 
 -- ---- for a page of n bytes, which has the room
 
-module _ (s : List ℕ) (n : ℕ) (lights : List ℕ) (d : Header) (e : Accepted d ≡ checkedOf s n lights) where
+module _ (s : List ℕ) (n : ℕ) (lights : List ℕ) (d : Header) (t : ℕ) (e : Accepted d t ≡ checkedOf s n lights) where
   pub found : AcceptedAs (pageTests (headerAt s) n lights) s d
-  found = checked-accepted (pageTests (headerAt s) n lights) s d (sym e)
+  found = checked-accepted (pageTests (headerAt s) n lights) s d t (sym e)
 
   pub room : d .w * d .h ≤ n
   room =

@@ -2,7 +2,8 @@
 pub mod Format
 pub mod Read
 pub mod Write
-pub mod List
 pub mod Settings
 pub mod Drawing
+pub mod Ceiling
+pub mod List
 pub mod inner

@@ -1,4 +1,4 @@
--- "A list is tried": the refusals of a whole list in their order, each with its place, and the records of an accepted one (R8.2, R8.3).
+-- "A list is tried": the refusals of a whole list in their order, each with its place, and the records and the ceiling of an accepted one (R6.6, R8.2, R8.3).
 use mathlib.Core.Bool.{Bool, not, cond, _&&_}
 use mathlib.Core.List.{List, [], _∷_}
 use Prim.Native.Nat.{ℕ, zero, suc, _+_, _*_}
@@ -10,6 +10,8 @@ use Rattle.shapes.specs.declared.Basis.{Basis}
 use Rattle.shapes.specs.declared.Record.{Record}
 use Rattle.lists.specs.Format.{listMost, headerSize, mark, headerAt, basisOf, kindAt, sizeAt, recordAt}
 use Rattle.lists.specs.Read.{readRefusal}
+use Rattle.lists.specs.Drawing.{drawings}
+use Rattle.lists.specs.Ceiling.{ceiling}
 use Rattle.lists.specs.declared.format.Header.{Header}
 use Rattle.lists.specs.declared.check.Checked.{Checked}
 use Rattle.lists.specs.declared.check.Checked.the-variants.{Accepted, Refused}
@@ -65,8 +67,9 @@ recordsOf tests s =
     cond (ltb 0 (headerRefusal tests s)) (refused (headerRefusal tests s) 0)
     (recordsFrom (suc (length s)) (basisOf (headerAt s)) (drop headerSize s) headerSize)
 
+-- what its check answers: the header and the ceiling of the drawings of an accepted list; a refused one has none
 abbrev pub checkedAs : Header → Records → Checked
-checkedAs d (accepted rs) = Accepted d
+checkedAs d (accepted rs) = Accepted d (ceiling (drawings (basisOf d) rs))
 checkedAs d (refused f place) = Refused f place
 
 -- a list s for a page of n bytes in some lights
@@ -75,3 +78,10 @@ pageRecords s n lights = recordsOf (pageTests (headerAt s) n lights) s
 
 abbrev pub checkedOf : List ℕ → ℕ → List ℕ → Checked
 checkedOf s n lights = checkedAs (headerAt s) (pageRecords s n lights)
+
+-- without a page: 21 and 32 are not tried
+abbrev pub pagelessRecords : List ℕ → Records
+pagelessRecords s = recordsOf [] s
+
+abbrev pub checkedWithoutPage : List ℕ → Checked
+checkedWithoutPage s = checkedAs (headerAt s) (pagelessRecords s)

@@ -5,21 +5,21 @@ ghost use Prim.Native.Nat.{ℕ, suc, _≤_};
 ghost use lib.ListN.{length, drop};
 ghost use Rattle.lights.specs.inner.Fit.{IsKind};
 ghost use Rattle.shapes.specs.Limits.{first, basisRefusal};
-ghost use Rattle.lists.specs.Format.{headerSize, basisOf};
-ghost use Rattle.lists.specs.List.{hasMark, headerRefusal, pageTests, recordsFrom, checkedAs, checkedOf};
+ghost use Rattle.lists.specs.Format.{listMost, headerSize, basisOf};
+ghost use Rattle.lists.specs.List.{hasMark, headerRefusal, pageTests, recordsFrom, checkedAs, checkedOf, checkedWithoutPage};
 use super::format::HEADER_SIZE;
 use super::format::Header;
 use super::format::LIST_MOST;
 use super::format::basis_of;
 use super::format::read_header;
-use super::read::front_refusal;
 use super::read::next_place;
+use super::read::try_front;
 use lights::fit::Kind;
 use lights::fit::kind_of;
 
-// What the check answers: the header of an accepted list, or the number of the refusal and its place.
+// What the check answers: the header of an accepted list and the ceiling of its touches, or the number of the refusal and its place.
 pub enum Checked {
-    Accepted(Header),
+    Accepted { header: Header, ceiling: u64 },
     Refused { refusal: u8, place: usize },
 }
 
@@ -66,25 +66,32 @@ fn header_refusal(list: &[u8]) -> u8
     shapes::basis_refusal(basis_of(read_header(list)))
 }
 
-// Tries the records one after the other.
+// Tries the records one after the other, and adds up what the shapes count, each under the clip in force.
 fn check_records(list: &[u8], header: Header) -> Checked
-    requires { ⌜ (headerSize ≤ length (now list)) × (basisRefusal (basisOf header) ≡ 0) ⌝ }
+    requires { ⌜ (headerSize ≤ length (now list)) × (length (now list) ≤ listMost) × (basisRefusal (basisOf header) ≡ 0) ⌝ }
     ensures { λ r. ⌜ r ≡ checkedAs header (recordsFrom (suc (length (now (list .entry)))) (basisOf header) (drop headerSize (now (list .entry))) headerSize) ⌝ }
 {
     let basis = basis_of(header);
     let mut place = HEADER_SIZE;
+    let mut pixels = numbers::product(header.w as u64, header.h as u64);
+    let mut ceiling: u64 = 0;
     loop {
-        let refusal = front_refusal(&list[place..], basis);
-        if 0 < refusal {
-            return Checked::Refused { refusal, place };
+        let tried = try_front(&list[place..], basis, pixels);
+        if 0 < tried.refusal {
+            return Checked::Refused {
+                refusal: tried.refusal,
+                place,
+            };
         }
+        ceiling += tried.ceiling;
+        pixels = tried.pixels;
         let kind = list[place];
         place = next_place(list, place);
         if kind == 0 {
             if place < list.len() {
                 return Checked::Refused { refusal: 6, place };
             }
-            return Checked::Accepted(header);
+            return Checked::Accepted { header, ceiling };
         }
     }
 }
@@ -114,4 +121,15 @@ pub fn check_list(list: &[u8], page: usize, lights: &[u16]) -> Checked
     ensures { λ r. ⌜ r ≡ checkedOf (now (list .entry)) page (now (lights .entry)) ⌝ }
 {
     check_tried(list, page, lights, kind_of(lights))
+}
+
+// Checks a list without a page.
+pub fn check_without_page(list: &[u8]) -> Checked
+    ensures { λ r. ⌜ r ≡ checkedWithoutPage (now (list .entry)) ⌝ }
+{
+    let refusal = header_refusal(list);
+    if 0 < refusal {
+        return Checked::Refused { refusal, place: 0 };
+    }
+    check_records(list, read_header(list))
 }

@@ -1,16 +1,20 @@
 // Reads one record from the front of some bytes.
 ghost use mathlib.Core.Path.{_≡_};
 ghost use Prim.Native.Nat.{_+_, _≤_};
+ghost use lib.Dec.{ltb};
 ghost use lib.ListN.{length, getD, drop};
 ghost use Rattle.shapes.specs.Limits.{basisRefusal};
 ghost use Rattle.lists.specs.Format.{kindSize, sizeAt};
 ghost use Rattle.lists.specs.inner.Record.{Whole};
+ghost use Rattle.lists.specs.inner.Front.{Opening, FrontTried};
 ghost use Rattle.lists.specs.Read.{readRefusal, readingOf, pastRecord};
+use super::format::RECORD_MOST;
 use super::format::decode;
 use super::format::kind_size;
 use super::format::last_kind;
 use shapes::Basis;
 use shapes::Record;
+use shapes::Tried;
 
 // What the reader answers: the record, or the number of the refusal.
 pub enum Reading {
@@ -18,10 +22,21 @@ pub enum Reading {
     Refused(u8),
 }
 
-// The first refusal of the record at the front, or 0, where the basis has none: a walk over a list tries its basis once.
-pub(crate) fn front_refusal(list: &[u8], basis: Basis) -> u8
+// Whether fewer bytes are left than a record of this kind has. Where the longest fits its size is not looked up, so that a walk waits for no
+// more than the kind.
+fn cut_short(left: usize, kind: u8) -> bool
+    ensures { λ r. ⌜ r ≡ ltb left (kindSize kind) ⌝ }
+{
+    if RECORD_MOST <= left {
+        return false;
+    }
+    left < kind_size(kind)
+}
+
+// The first refusal that is tried before the fields of the record at the front are read, 5, 4 or 5, or 0.
+fn opening_refusal(list: &[u8], basis: Basis) -> u8
     requires { ⌜ basisRefusal basis ≡ 0 ⌝ }
-    ensures { λ r. ⌜ r ≡ readRefusal basis (now (list .entry)) ⌝ }
+    ensures { λ r. ⌜ Opening basis (now (list .entry)) r ⌝ }
 {
     if list.len() == 0 {
         return 5;
@@ -30,10 +45,22 @@ pub(crate) fn front_refusal(list: &[u8], basis: Basis) -> u8
     if last_kind(basis.version) < kind {
         return 4;
     }
-    if list.len() < kind_size(kind) {
+    if cut_short(list.len(), kind) {
         return 5;
     }
-    shapes::record_refusal(basis, decode(list))
+    0
+}
+
+// Tries the record at the front under a clip of so many pixels, where the basis has no refusal: a walk over a list tries its basis once.
+pub(crate) fn try_front(list: &[u8], basis: Basis, pixels: u64) -> Tried
+    requires { ⌜ basisRefusal basis ≡ 0 ⌝ }
+    ensures { λ r. ⌜ FrontTried basis pixels (now (list .entry)) r ⌝ }
+{
+    let refusal = opening_refusal(list, basis);
+    if 0 < refusal {
+        return shapes::tried_as(refusal, 0, pixels);
+    }
+    shapes::try_record(basis, decode(list), pixels)
 }
 
 // The first refusal of the record at the front, or 0.
@@ -44,7 +71,11 @@ fn read_refusal(list: &[u8], basis: Basis) -> u8
     if 0 < refusal {
         return refusal;
     }
-    front_refusal(list, basis)
+    let opening = opening_refusal(list, basis);
+    if 0 < opening {
+        return opening;
+    }
+    shapes::record_refusal(basis, decode(list))
 }
 
 // The record at the front.

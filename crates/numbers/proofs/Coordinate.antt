@@ -12,7 +12,7 @@ use lib.Signed.{leZ, ltZ, nonNeg, pos-natAbs}
 use mir.Syntax.{w16, w64}
 use mir.Val.{SFits, toZ, ofZ}
 use mir.Facts.{toZ-ofZ, ofZ-toZ}
-use Rattle.numbers.specs.inner.Order.{dist}
+use Rattle.numbers.specs.inner.Order.{dist, Span}
 use Rattle.numbers.proofs.Order.{lt-or-le}
 use Rattle.numbers.specs.Coordinate.{inRange, bitsOf, signedOf, wordOf, bytesOf}
 use Rattle.numbers.specs.inner.Offset.{origin, offsetMost, offsetOf}
@@ -154,3 +154,36 @@ le-offset {x} {y} p q =
     go : (s : Bool) → (T s → offsetOf x ≤ offsetOf y) → (offsetOf x ≤ offsetOf y → T s) → s ≡ leb (offsetOf x) (offsetOf y)
     go true f g = sym (le-leb (offsetOf x) (offsetOf y) (f tt))
     go false f g = sym (lt-leb (offsetOf x) (offsetOf y) (⊎-elim (λ h. h) (λ h. absurd (g h)) (lt-or-le (offsetOf y) (offsetOf x))))
+
+-- ---- how far two signed numbers of 16 bits are apart
+
+word-parts : (z : ℤ) → SFits w16 z → (plus z < 32768) × (minus z ≤ 32768)
+word-parts (pos n) f = (f .sfits, omega arith)
+word-parts (negsuc n) f = (omega arith, f .sfits)
+
+pub word-wide : {z : ℤ} → SFits w16 z → SFits w64 z
+word-wide {z} f = let h = word-parts z f in sfits-diff (diff-of z) (omega arith) (omega arith)
+
+module _ {a b : ℤ} (p : SFits w16 a) (q : SFits w16 b) where
+  gap : Diff (b -ℤ a) (plus b + minus a) (minus b + plus a)
+  gap = diff-minus (diff-of b) (diff-of a)
+
+  pub gap-fits : SFits w64 (b -ℤ a)
+  gap-fits = let h = word-parts a p in let k = word-parts b q in sfits-diff gap (omega arith) (omega arith)
+
+  pub gap-nonNeg : T (leZ a b) → T (nonNeg (b -ℤ a))
+  gap-nonNeg t = nonNeg-diff gap (omega (arith, diff-le (diff-of a) (diff-of b) t))
+
+  pub gap-is : Span a b (natAbs (b -ℤ a))
+  gap-is = let h = word-parts a p in let k = word-parts b q in record { is = refl; most = omega (arith, diff-abs gap) }
+
+pub span-turned : {a b : ℤ} {r : ℕ} → Span b a r → Span a b r
+span-turned {a} {b} s =
+    let e = diff-abs (diff-minus (diff-of a) (diff-of b)) in
+    let f = diff-abs (diff-minus (diff-of b) (diff-of a)) in
+    record { is = omega (arith, s .is); most = s .most }
+
+pub le-turned : (a b : ℤ) → leZ a b ≡ false → T (leZ b a)
+le-turned a b e =
+    ⊎-elim (λ h. absurd (subst T e (le-diff (diff-of a) (diff-of b) (omega arith)))) (λ h. le-diff (diff-of b) (diff-of a) (omega arith))
+    (lt-or-le (plus a + minus b) (plus b + minus a))

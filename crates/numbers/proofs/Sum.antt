@@ -1,13 +1,15 @@
 -- Laws of sums over a range, and over a list.
 use mathlib.Core.Path.{_≡_, refl, ap, ap₂, _∙_}
 use mathlib.Core.List.{List, [], _∷_, _++_}
-use mathlib.Core.Logic.{⊎-elim}
+use mathlib.Core.Logic.{_⊎_, inl, inr, ⊎-elim}
 use Prim.Native.Nat.{ℕ, zero, suc, _+_, _-_, _*_, _≤_, _<_}
-use native.Mathlib.Nat.{add-zero, zero-add, add-suc, suc-mul}
+use native.Mathlib.Nat.{add-zero, zero-add, add-suc, suc-mul, mul-le-mul-right}
 use native.Mathlib.Numerals.{add-one}
 use native.Mathlib.Omega.{arith}
+use lib.IntN.{ℤ}
 use Rattle.numbers.specs.Sum.{sumTo, total}
 use Rattle.numbers.proofs.Order.{lt-or-le}
+use Rattle.numbers.proofs.Integer.{Diff, plus, minus, diff-of, diff-same}
 
 pub sum-none : (f : ℕ → ℕ) → sumTo 0 f ≡ 0
 unfolding sumTo
@@ -37,6 +39,12 @@ pub sum-add : (n : ℕ) (f g : ℕ → ℕ) → sumTo n (λ k. f k + g k) ≡ su
 unfolding sumTo
 sum-add zero f g = refl
 sum-add (suc n) f g = omega (arith, sum-add n f g)
+
+-- the order of two sums does not matter
+pub sum-swap : (n m : ℕ) (f : ℕ → ℕ → ℕ) → sumTo n (λ y. sumTo m (λ x. f x y)) ≡ sumTo m (λ x. sumTo n (λ y. f x y))
+unfolding sumTo
+sum-swap n zero f = sum-zero n (λ y. 0) (λ k b. refl)
+sum-swap n (suc m) f = sum-add n (λ y. sumTo m (λ x. f x y)) (λ y. f m y) ∙ ap (λ (t : ℕ). t + sumTo n (λ y. f m y)) (sum-swap n m f)
 
 -- terms that are each at most m
 pub sum-le : (n m : ℕ) (f : ℕ → ℕ) → ((k : ℕ) → f k ≤ m) → sumTo n f ≤ n * m
@@ -76,6 +84,29 @@ sum-one n a f b h =
     one : a + 1 - a ≡ suc zero
     one = omega arith
 
+-- place j is none of the l places from z on, which may begin below 0
+abbrev pub Beyond : ℤ → ℕ → ℕ → Type 0
+Beyond z l j = (j + minus z < plus z) ⊎ (plus z + l ≤ j + minus z)
+
+-- by another difference that z is
+pub beyond-diff : {z : ℤ} {a b : ℕ} (l j : ℕ) → Diff z a b → Beyond z l j → (j + b < a) ⊎ (a + l ≤ j + b)
+beyond-diff {z} l j d (inl h) = inl (omega (arith, diff-same (diff-of z) d))
+beyond-diff {z} l j d (inr h) = inr (omega (arith, diff-same (diff-of z) d))
+
+-- terms that are each at most m, and 0 beyond l places; where these begin below 0, fewer of them count
+pub sum-few : (n : ℕ) (z : ℤ) (l m : ℕ) (f : ℕ → ℕ) → ((k : ℕ) → f k ≤ m) → ((k : ℕ) → Beyond z l k → f k ≡ 0) → sumTo n f ≤ l * m
+sum-few n z l m f most none =
+    let a = plus z - minus z in
+    let b = plus z + l - minus z in
+    let h : b - a ≤ l = omega arith in
+    omega (
+      arith,
+      sum-split n b f,
+      sum-window (n + b) a b f (omega arith) (omega arith) (λ k i. none k (inl (omega arith))) (λ k i. none k (inr (omega arith))),
+      sum-le (b - a) m (λ i. f (a + i)) (λ i. most (a + i)),
+      mul-le-mul-right m h,
+    )
+
 -- ---- sums over a list
 module _ {ℓ} {A : Type ℓ} where
   pub total-++ : (m : A → ℕ) (xs ys : List A) → total m (xs ++ ys) ≡ total m xs + total m ys
@@ -93,3 +124,9 @@ module _ {ℓ} {A : Type ℓ} where
   unfolding total
   sum-total n m [] = sum-zero n (λ k. 0) (λ k b. refl)
   sum-total n m (x ∷ xs) = sum-add n (λ k. m k x) (λ k. total (m k) xs) ∙ ap (λ (t : ℕ). sumTo n (λ k. m k x) + t) (sum-total n m xs)
+
+  -- a measure that is at most another on each element of a list with P; what has P, its rest has too
+  pub total-le : (P : List A → Type 0) (m n : A → ℕ) → ((x : A) (xs : List A) → P (x ∷ xs) → (m x ≤ n x) × P xs) → (xs : List A) → P xs → total m xs ≤ total n xs
+  unfolding total
+  total-le P m n each [] p = omega arith
+  total-le P m n each (x ∷ xs) p = let e = each x xs p in omega (arith, e .0, total-le P m n each xs (e .1))

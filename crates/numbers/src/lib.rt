@@ -2,7 +2,9 @@
 ghost use mathlib.Core.Path.{_≡_};
 ghost use mathlib.Core.List.{[], _∷_};
 ghost use Prim.Native.Nat.{_-_, _≤_, _<_, min, max};
-ghost use Rattle.numbers.specs.inner.Order.{dist, Product, Remainder};
+ghost use lib.Dec.{T};
+ghost use lib.Signed.{leZ};
+ghost use Rattle.numbers.specs.inner.Order.{dist, Product, Span, Remainder};
 ghost use Rattle.numbers.specs.Coordinate.{inRange, bitsOf, signedOf, wordOf, bytesOf};
 ghost use Rattle.numbers.specs.inner.Offset.{offsetOf};
 
@@ -52,6 +54,21 @@ pub fn distance(a: u64, b: u64) -> u64
     ensures { λ r. ⌜ r ≡ dist a b ⌝ }
 {
     if a < b { b - a } else { a - b }
+}
+
+// How far b is above a.
+fn rise(a: i16, b: i16) -> u64
+    requires { ⌜ T (leZ a b) ⌝ }
+    ensures { λ r. ⌜ Span a b r ⌝ }
+{
+    (b as i64 - a as i64) as u64
+}
+
+// How far two signed numbers are apart.
+pub fn span(a: i16, b: i16) -> u64
+    ensures { λ r. ⌜ Span a b r ⌝ }
+{
+    if a <= b { rise(a, b) } else { rise(b, a) }
 }
 
 // Whether a coordinate is from -4,096 to 4,095.

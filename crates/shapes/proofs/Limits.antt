@@ -1,11 +1,11 @@
--- The refusals of a shape by the offsets of its coordinates, and what a shape without one has.
+-- The refusals of a shape by the offsets of its coordinates, and what a shape, a page and a clip without one have.
 use mathlib.Core.Path.{_≡_, refl, sym, _∙_, ap, ap₂}
 use mathlib.Core.Bool.{Bool, true, false, not, cond, _&&_, _||_}
 use mathlib.Core.Logic.{_⊎_, inl, inr}
 use Prim.Native.Nat.{ℕ, zero, suc, _+_, _^_, _≤_, _<_}
 use native.Mathlib.Omega.{arith}
-use borrow.Author.Tests.{lt-ltb, le-ltb, eq-eqb, ne-eqb, not-false, ltb-false}
-use lib.Dec.{T, ltb, eqb}
+use borrow.Author.Tests.{lt-ltb, le-ltb, eq-eqb, ne-eqb, not-false, ltb-false, leb-true}
+use lib.Dec.{T, ltb, leb, eqb}
 use lib.IntN.{ℤ}
 use lib.Signed.{leZ, mag}
 use mir.Syntax.{Width, w16}
@@ -17,11 +17,12 @@ use Rattle.numbers.specs.inner.Offset.{offsetMost, offsetOf}
 use Rattle.numbers.proofs.Order.{lt-or-le, eq-or-ne, cond-le}
 use Rattle.numbers.proofs.Integer.{Diff, diff-le, le-diff}
 use Rattle.numbers.proofs.Coordinate.{InRange, in-range, range-offset}
-use Rattle.shapes.specs.Limits.{offVersion, outside, same, offRange, refusalsOf, radiusMost, circleRoom, radiusRoom, sizeRefusal, basisRefusal, refusalWithin, shapeRefusal}
+use Rattle.shapes.specs.Limits.{offVersion, offSize, offPage, outside, same, offRange, refusalsOf, radiusMost, circleRoom, radiusRoom, sizeRefusal, basisRefusal, clipRefusal, refusalWithin, shapeRefusal}
 use Rattle.shapes.specs.inner.Offsets.{pointOf, endsOf}
 use Rattle.shapes.specs.declared.Point.{Point}
 use Rattle.shapes.specs.declared.Ends.{Ends}
 use Rattle.shapes.specs.declared.Basis.{Basis}
+use Rattle.shapes.specs.declared.Clip.{Clip}
 use Rattle.shapes.specs.declared.Line.{Line}
 use Rattle.shapes.specs.declared.Disc.{Disc}
 use Rattle.shapes.specs.declared.Ring.{Ring}
@@ -256,3 +257,41 @@ record-shape s = wider (radiusRoom s) s (room s)
 pub basis-size : (b : Basis) → basisRefusal b ≡ 0 → sizeRefusal (b .w) (b .h) ≡ 0
 unfolding basisRefusal
 basis-size b e = tried-clear (sizeRefusal (b .w) (b .h)) 0 (clear (offVersion (b .version)) 1 _ e .1) .0
+
+-- ---- what a page and a clip without a refusal have
+pub record LawfulSize (w h : ℕ) : Type 0 where
+  pub w-least : 0 < w
+  pub w-most : w ≤ 1024
+  pub h-most : h ≤ 1024
+
+pub size-lawful : (w h : ℕ) → sizeRefusal w h ≡ 0 → LawfulSize w h
+unfolding sizeRefusal offSize
+size-lawful w h e =
+    let a = or-clear (ltb w 1 || ltb 1024 w || ltb h 1) (ltb 1024 h) (clear (offSize w h) 2 0 e .0) in
+    let b = or-clear (ltb w 1 || ltb 1024 w) (ltb h 1) (a .0) in
+    let d = or-clear (ltb w 1) (ltb 1024 w) (b .0) in
+    record { w-least = omega (arith, ltb-false w 1 (d .0)); w-most = ltb-false 1024 w (d .1); h-most = ltb-false 1024 h (a .1) }
+
+pub record LawfulClip (w h : ℕ) (c : Clip) : Type 0 where
+  pub x-order : c .x0 ≤ c .x1
+  pub x-most : c .x1 ≤ w
+  pub y-order : c .y0 ≤ c .y1
+  pub y-most : c .y1 ≤ h
+
+pub clip-lawful : (w h : ℕ) (c : Clip) → clipRefusal w h c ≡ 0 → LawfulClip w h c
+unfolding clipRefusal offPage
+clip-lawful w h c e =
+    let k = rest (leb (c .x0) (c .x1)) (leb (c .x1) w) (leb (c .y0) (c .y1)) (leb (c .y1) h) (clear (offPage w h c) 7 0 e .0) in
+    record {
+      x-order = leb-true (c .x0) (c .x1) (k .0);
+      x-most = leb-true (c .x1) w (k .1);
+      y-order = leb-true (c .y0) (c .y1) (k .2);
+      y-most = leb-true (c .y1) h (k .3);
+    }
+  where
+    rest : (p q r s : Bool) → not (p && q && r && s) ≡ false → (p ≡ true) × (q ≡ true) × (r ≡ true) × (s ≡ true)
+    rest true true true true e = (refl, refl, refl, refl)
+    rest true true true false e = absurd (let z : _≡_ {A = ℕ} 0 1 = cc in omega arith)
+    rest true true false s e = absurd (let z : _≡_ {A = ℕ} 0 1 = cc in omega arith)
+    rest true false r s e = absurd (let z : _≡_ {A = ℕ} 0 1 = cc in omega arith)
+    rest false q r s e = absurd (let z : _≡_ {A = ℕ} 0 1 = cc in omega arith)

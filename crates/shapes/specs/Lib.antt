@@ -1,4 +1,5 @@
--- The limits of shapes, clips and records, and the spans of a line.
+-- The limits of shapes, clips and records, the spans of a line, and the ceiling of a shape.
 pub mod Limits
 pub mod Span
+pub mod Ceiling
 pub mod inner

@@ -1,9 +1,13 @@
-// The shapes, the settings and the records of a drawing list, and the limits of each.
+// The shapes, the settings and the records of a drawing list, the limits of each, and what each counts towards the ceiling of its list.
 use numbers::OFFSET_MOST;
 ghost use mathlib.Core.Path.{_≡_};
-ghost use Prim.Native.Nat.{_≤_};
+ghost use Prim.Native.Nat.{_*_, _≤_};
 ghost use Rattle.numbers.specs.inner.Offset.{offsetMost};
+ghost use Rattle.numbers.specs.inner.Order.{Span};
 ghost use Rattle.shapes.specs.Limits.{sizeRefusal, basisRefusal, clipRefusal, playerRefusal, refusalWithin, shapeRefusal, circleRoom, radiusRoom, recordRefusal};
+ghost use Rattle.shapes.specs.Span.{greater, smaller, greatest, smallest};
+ghost use Rattle.shapes.specs.Ceiling.{shapeCeiling, clipPixels};
+ghost use Rattle.shapes.specs.inner.Tried.{triedBy, recordTried};
 ghost use Rattle.shapes.specs.inner.Offsets.{pointOf, endsOf, cornersOf, greatestOf, leastOf, spreadOf, farthest, straight};
 
 // The latest version of the format.
@@ -164,6 +168,25 @@ fn spread(a: u64, b: u64, c: u64) -> u64
     ensures { λ r. ⌜ r ≡ spreadOf a b c ⌝ }
 {
     greatest(a, b, c) - least(a, b, c)
+}
+
+// The greater and the smaller of two coordinates, and how far three are apart.
+fn higher(a: i16, b: i16) -> i16
+    ensures { λ r. ⌜ r ≡ greater a b ⌝ }
+{
+    if a <= b { b } else { a }
+}
+
+fn lower(a: i16, b: i16) -> i16
+    ensures { λ r. ⌜ r ≡ smaller a b ⌝ }
+{
+    if a <= b { a } else { b }
+}
+
+fn extent(a: i16, b: i16, c: i16) -> u64
+    ensures { λ r. ⌜ Span (smallest a b c) (greatest a b c) r ⌝ }
+{
+    numbers::span(lower(lower(a, b), c), higher(higher(a, b), c))
 }
 
 // The refusal of W and H, 3, or 0.
@@ -344,6 +367,40 @@ pub fn shape_refusal(shape: Shape, most: u16) -> u8
     }
 }
 
+// What a line, a disc or a ring, and a triangle count.
+fn line_ceiling(line: Line) -> u64
+    ensures { λ r. ⌜ r ≡ shapeCeiling (Shape.Line line) ⌝ }
+{
+    let x = numbers::span(line.x0, line.x1);
+    let y = numbers::span(line.y0, line.y1);
+    3 * numbers::greater(x, y)
+}
+
+fn circle_ceiling(radius: u16) -> u64
+    ensures { λ r. ⌜ r ≡ 4 * (radius * radius) ⌝ }
+{
+    4 * numbers::product(radius as u64, radius as u64)
+}
+
+fn triangle_ceiling(triangle: Triangle) -> u64
+    ensures { λ r. ⌜ r ≡ shapeCeiling (Shape.Triangle triangle) ⌝ }
+{
+    numbers::product(
+        extent(triangle.x0, triangle.x1, triangle.x2),
+        extent(triangle.y0, triangle.y1, triangle.y2),
+    )
+}
+
+// The pixels of a clip.
+fn clip_pixels(clip: Clip) -> u64
+    ensures { λ r. ⌜ r ≡ clipPixels clip ⌝ }
+{
+    numbers::product(
+        numbers::less(clip.x1 as u64, clip.x0 as u64),
+        numbers::less(clip.y1 as u64, clip.y0 as u64),
+    )
+}
+
 // The greatest radius of a record of a disc or a ring.
 fn circle_room(big: bool) -> u16
     ensures { λ r. ⌜ r ≡ circleRoom big ⌝ }
@@ -375,5 +432,63 @@ pub fn record_refusal(basis: Basis, rec: Record) -> u8
             Setting::Player(player) => player_refusal(player),
         },
         Record::Shape(shape) => shape_refusal(shape, radius_room(shape)),
+    }
+}
+
+// What trying a record tells: its refusal or 0, what it counts under a clip of so many pixels, and the pixels of the clip in force behind it.
+pub struct Tried {
+    pub refusal: u8,
+    pub ceiling: u64,
+    pub pixels: u64,
+}
+
+pub fn tried_as(refusal: u8, most: u64, pixels: u64) -> Tried
+    ensures { λ r. ⌜ r ≡ triedBy refusal most pixels ⌝ }
+{
+    Tried {
+        refusal,
+        ceiling: numbers::lesser(most, pixels),
+        pixels,
+    }
+}
+
+// Tries a shape of a record.
+fn try_shape(shape: Shape, pixels: u64) -> Tried
+    ensures { λ r. ⌜ r ≡ triedBy (refusalWithin (radiusRoom shape) shape) (shapeCeiling shape) pixels ⌝ }
+{
+    match shape {
+        Shape::Line(line) => tried_as(line_refusal(line), line_ceiling(line), pixels),
+        Shape::Disc(disc) => {
+            let refusal = disc_refusal(disc, circle_room(disc.big));
+            tried_as(refusal, circle_ceiling(disc.radius), pixels)
+        }
+        Shape::Ring(ring) => {
+            let refusal = ring_refusal(ring, circle_room(ring.big));
+            tried_as(refusal, circle_ceiling(ring.radius), pixels)
+        }
+        Shape::Triangle(triangle) => {
+            tried_as(
+                triangle_refusal(triangle),
+                triangle_ceiling(triangle),
+                pixels,
+            )
+        }
+    }
+}
+
+// Tries a record. Its kind is told apart once for all that the check of a list asks: most of the check's time goes into that.
+pub fn try_record(basis: Basis, rec: Record, pixels: u64) -> Tried
+    ensures { λ r. ⌜ r ≡ recordTried basis pixels rec ⌝ }
+{
+    match rec {
+        Record::End => tried_as(0, 0, pixels),
+        Record::Setting(setting) => match setting {
+            Setting::Clip(clip) => {
+                tried_as(clip_refusal(basis.w, basis.h, clip), 0, clip_pixels(clip))
+            }
+            Setting::Level(_) => tried_as(0, 0, pixels),
+            Setting::Player(player) => tried_as(player_refusal(player), 0, pixels),
+        },
+        Record::Shape(shape) => try_shape(shape, pixels),
     }
 }

@@ -1,11 +1,12 @@
 //! Checking and drawing a whole list as one would first write it in Rust.
 //!
-//! The list is read twice, record by record: once to find its first refusal, once to draw.
+//! The list is read twice, record by record: once to find its first refusal and add up its ceiling,
+//! once to draw.
 
 use crate::baseline::{clip_refusal, page_refusal, paint, shape_refusal, CodeInk, Ink, LightInk};
 use greystroke::{
-    Clip, Disc, Header, Lights, Line, ListRefusal, Picture, Record, Refusal, Ring, Setting, Shape,
-    Size, Triangle, PLAYERS,
+    Checked, Clip, Disc, Header, Lights, Line, ListRefusal, Picture, Record, Refusal, Ring,
+    Setting, Shape, Size, Triangle, PLAYERS,
 };
 
 const LONGEST_LIST: usize = 65_536;
@@ -16,24 +17,38 @@ pub fn check_list(
     list: &[u8],
     page_length: usize,
     _lights: &Lights,
-) -> Result<Header, ListRefusal> {
+) -> Result<Checked, ListRefusal> {
+    check(list, page_length)
+}
+
+/// What [`greystroke::check_without_page`] does: no page is then too short.
+pub fn check_without_page(list: &[u8]) -> Result<Checked, ListRefusal> {
+    check(list, usize::MAX)
+}
+
+fn check(list: &[u8], page_length: usize) -> Result<Checked, ListRefusal> {
     let at = |place| move |refusal| ListRefusal { refusal, place };
     let header = check_header(list, page_length).map_err(at(0))?;
     let mut place = HEADER_LENGTH;
+    let mut clip = Clip::whole(header.size);
+    let mut ceiling = 0;
     loop {
         let (record, length) = decode(&list[place..], header.version).map_err(at(place))?;
         if let Some(refusal) = record_refusal(record, header.size) {
             return Err(at(place)(refusal));
         }
         place += length;
-        if record == Record::End {
-            break;
+        match record {
+            Record::End => break,
+            Record::Setting(Setting::Clip(next)) => clip = next,
+            Record::Setting(_) => {}
+            Record::Shape(shape) => ceiling += u64::from(shape_ceiling(shape, clip)),
         }
     }
     if place < list.len() {
         return Err(at(place)(Refusal::SurplusBytes));
     }
-    Ok(header)
+    Ok(Checked { header, ceiling })
 }
 
 /// What [`greystroke::draw_list`] does with lights equal to codes.
@@ -60,7 +75,7 @@ fn draw<I: Ink>(
         version,
         size,
         background,
-    } = check_list(list, page.len(), lights)?;
+    } = check_list(list, page.len(), lights)?.header;
     page[..usize::from(size.width) * usize::from(size.height)].fill(background);
     let mut clip = Clip::whole(size);
     let mut level = 255;
@@ -113,6 +128,24 @@ fn record_refusal(record: Record, size: Size) -> Option<Refusal> {
         }
         Record::Shape(shape) => shape_refusal(shape),
     }
+}
+
+/// How much a lawful shape adds to the ceiling.
+fn shape_ceiling(shape: Shape, clip: Clip) -> u32 {
+    let count = match shape {
+        Shape::Line(line) => {
+            let (across, down) = (line.x0.abs_diff(line.x1), line.y0.abs_diff(line.y1));
+            3 * u32::from(across.max(down))
+        }
+        Shape::Disc(Disc { radius, .. }) | Shape::Ring(Ring { radius, .. }) => {
+            4 * u32::from(radius) * u32::from(radius)
+        }
+        Shape::Triangle(t) => {
+            let span = |a: i16, b: i16, c: i16| a.max(b).max(c).abs_diff(a.min(b).min(c));
+            u32::from(span(t.x0, t.x1, t.x2)) * u32::from(span(t.y0, t.y1, t.y2))
+        }
+    };
+    count.min(u32::from(clip.x1 - clip.x0) * u32::from(clip.y1 - clip.y0))
 }
 
 /// The record at the front of the bytes of a list of this version, and how many it has.

@@ -14,6 +14,7 @@ pub fn answer(line: &str) -> String {
         "lists" => rows::lists(call, |list, page, lights| {
             library::draw_list(list, page, lights).map(|drawn| drawn.touched)
         }),
+        "ceilings" => rows::ceilings(call, library::check_without_page),
         _ => format!("no answers for {table}"),
     }
 }

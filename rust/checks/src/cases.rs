@@ -3,7 +3,9 @@
 use std::fs;
 use std::path::{Path, PathBuf};
 
-pub const TABLES: [&str; 6] = ["queries", "columns", "draws", "writes", "reads", "lists"];
+pub const TABLES: [&str; 7] = [
+    "queries", "columns", "draws", "writes", "reads", "lists", "ceilings",
+];
 
 /// One row of a table: the call, and the answer right of the arrow.
 pub struct Row {

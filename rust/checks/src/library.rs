@@ -7,7 +7,7 @@ use crate::rows::{ShapeCall, Writing};
 use greystroke::{raw, Lights};
 use reference::coverage::Fraction;
 use reference::format::Header;
-use reference::list::Drawn;
+use reference::list::{Checked, Drawn};
 use reference::refusal::Refused;
 use reference::shape::{Basis, Clip, Disc, Line, Record, Ring, Setting, Shape, Triangle};
 
@@ -51,17 +51,31 @@ pub fn read_record(bytes: &[u8], basis: Basis) -> (Result<Record, Refused>, &[u8
     }
 }
 
-pub fn check_list(list: &[u8], page_length: usize, lights: &[u16]) -> Result<Header, Refused> {
+pub fn check_list(list: &[u8], page_length: usize, lights: &[u16]) -> Result<Checked, Refused> {
     let outcome = match Lights::new(lights) {
         Ok(lights) => greystroke::check_list(list, page_length, &lights),
         Err(_) => raw::check_list(list, page_length, lights),
     };
+    reference_checked(outcome)
+}
+
+pub fn check_without_page(list: &[u8]) -> Result<Checked, Refused> {
+    reference_checked(greystroke::check_without_page(list))
+}
+
+/// What a check of a list answered, the library's or one that answers alike.
+pub fn reference_checked(
+    outcome: Result<greystroke::Checked, greystroke::ListRefusal>,
+) -> Result<Checked, Refused> {
     match outcome {
-        Ok(header) => Ok(Header {
-            version: header.version,
-            width: header.size.width,
-            height: header.size.height,
-            background: header.background,
+        Ok(greystroke::Checked { header, ceiling }) => Ok(Checked {
+            header: Header {
+                version: header.version,
+                width: header.size.width,
+                height: header.size.height,
+                background: header.background,
+            },
+            ceiling,
         }),
         Err(refusal) => Err(with_place(refusal)),
     }

@@ -8,6 +8,7 @@ use crate::notation::{
     narrow, numbers, parse_clip, parse_line, parse_shape, parse_writable, show_record, Writable,
 };
 use reference::coverage::Fraction;
+use reference::list::Checked;
 use reference::refusal::Refused;
 use reference::shape::{Basis, Clip, Line, Record, Shape, PLAYERS};
 
@@ -124,10 +125,14 @@ pub fn lists(
     let mut page = before.clone();
     match draw(&parse_hex(hex), &mut page, &parse_lights(lights)) {
         Ok(touched) => show_page(&touched, &page),
-        Err(refusal) => {
-            let told = format!("refused {} at {}", refusal.number, refusal.place);
-            marked(told, page != before)
-        }
+        Err(refusal) => marked(refused_at(&refusal), page != before),
+    }
+}
+
+pub fn ceilings(call: &str, check: impl Fn(&[u8]) -> Result<Checked, Refused>) -> String {
+    match check(&parse_hex(call)) {
+        Ok(checked) => checked.ceiling.to_string(),
+        Err(refusal) => refused_at(&refusal),
     }
 }
 
@@ -163,6 +168,11 @@ fn show_writing(writing: &Writing) -> String {
 
 fn refused(refusal: &Refused, changed: bool) -> String {
     marked(format!("refused {}", refusal.number), changed)
+}
+
+/// The refusal of a whole list.
+fn refused_at(refusal: &Refused) -> String {
+    format!("refused {} at {}", refusal.number, refusal.place)
 }
 
 /// A refusal, and whether something that was lent or held is no longer as it was.

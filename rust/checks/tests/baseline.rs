@@ -1,16 +1,17 @@
 //! What the benchmark measures against keeps the rules: the baseline against the reference.
 
 use checks::drawings::{drawing, triangle_drawing};
+use checks::library::reference_checked;
 use checks::lights::{fit_lights, named};
 use checks::listings::{damage, list};
 use checks::notation::triangle_of;
-use checks::pictures::{picture, Listed};
+use checks::pictures::picture;
 use checks::random::Random;
 use checks::rows::{starting_page, ShapeCall};
 use checks::{baseline_list, baseline_page, reference_page};
 use greystroke::Lights;
 use reference::lights::lights_refusal;
-use reference::list::{draw_list, Drawn};
+use reference::list::{check, check_without_page, draw_list, Drawn};
 use reference::page::page_length;
 use reference::refusal::Refused;
 use reference::shape::{Clip, Shape};
@@ -18,6 +19,7 @@ use reference::shape::{Clip, Shape};
 const TRIANGLES: u32 = 200_000;
 const DRAWS: u32 = 20_000;
 const LISTS: u32 = 4_000;
+const CHECKED: u32 = 40_000;
 
 /// Draws by both on the same page, and says how many pixels were touched if nothing is refused.
 fn agreed(call: &ShapeCall) -> Option<u64> {
@@ -92,20 +94,23 @@ fn drawn(list: &[u8], page: &mut [u8], lights: &[u16]) -> Result<Drawn, Refused>
     }
 }
 
+/// Most that meet their page, half of all damaged.
+fn any_list(random: &mut Random, number: u32) -> Vec<u8> {
+    let mut bytes = match number % 3 {
+        0 => list(random),
+        _ => picture(random).list,
+    };
+    if random.flip() {
+        damage(random, &mut bytes);
+    }
+    bytes
+}
+
 #[test]
 fn random_and_damaged_lists_agree() {
     let mut random = Random::new(53);
     for number in 0..LISTS {
-        let mut bytes = match number % 3 {
-            0 => list(&mut random),
-            _ => {
-                let Listed { list, .. } = picture(&mut random);
-                list
-            }
-        };
-        if random.flip() {
-            damage(&mut random, &mut bytes);
-        }
+        let bytes = any_list(&mut random, number);
         let (_, lights) = fit_lights(&mut random);
         let mut expected = starting_page(1600);
         let mut found = expected.clone();
@@ -113,4 +118,25 @@ fn random_and_damaged_lists_agree() {
         assert_eq!(drawn(&bytes, &mut found, &lights), answer, "{bytes:02x?}");
         assert!(found == expected, "{bytes:02x?}");
     }
+}
+
+/// Both checks, with the ceilings of the lists that are accepted.
+#[test]
+fn random_and_damaged_lists_are_checked_alike() {
+    let mut random = Random::new(54);
+    let mut accepted = 0;
+    for number in 0..CHECKED {
+        let bytes = any_list(&mut random, number);
+        let length = random.pick(&[0, 39, 1600, 1 << 20]);
+        let (_, lights) = fit_lights(&mut random);
+        let expected = check(&bytes, length, &lights).map(|accepted| accepted.checked());
+        let lights = Lights::new(&lights).expect("fit lights");
+        let found = reference_checked(baseline_list::check_list(&bytes, length, &lights));
+        assert_eq!(found, expected, "page of {length}, list {bytes:02x?}");
+        let expected = check_without_page(&bytes).map(|accepted| accepted.checked());
+        let found = reference_checked(baseline_list::check_without_page(&bytes));
+        assert_eq!(found, expected, "list {bytes:02x?} without a page");
+        accepted += u32::from(found.is_ok_and(|checked| checked.ceiling > 0));
+    }
+    assert!(accepted > CHECKED / 4, "only {accepted} have a ceiling");
 }

@@ -1,5 +1,5 @@
-//! Drawing lists of both versions: the library's check, in fit and unfit lights, and its reader
-//! against the reference and against stored rows.
+//! Drawing lists of both versions: the library's check, in fit and unfit lights and without a page,
+//! and its reader against the reference and against stored rows.
 
 use checks::calls::answer;
 use checks::cases::rows;
@@ -10,7 +10,7 @@ use checks::listings::{damage, list};
 use checks::notation::triangle_of;
 use checks::random::Random;
 use reference::format::{encode_header, encode_record, Header, HEADER_LENGTH, LONGEST_LIST};
-use reference::list::check;
+use reference::list::{check, check_without_page, Checked};
 use reference::reader::read_record;
 use reference::refusal::Refused;
 use reference::shape::{Basis, Clip, Disc, Line, Record, Ring, Setting, Shape};
@@ -38,15 +38,29 @@ fn refused(number: u64, place: usize) -> Answer {
     Err(Refused { number, place })
 }
 
-/// The answer that library and reference agree on.
+/// The answer that library and reference agree on, with the same ceiling. Where it is neither 21 nor
+/// 32, they have it without a page too.
 fn checked_in(lights: &[u16], list: &[u8], page_length: usize) -> Answer {
-    let expected = check(list, page_length, lights).map(|accepted| accepted.header);
+    let expected = check(list, page_length, lights).map(|accepted| accepted.checked());
     let found = library::check_list(list, page_length, lights);
     assert_eq!(
         found, expected,
         "page of {page_length}, list {list:02x?}, lights {lights:?}"
     );
-    expected
+    let alone = checked_alone(list);
+    let answer = expected.map(|checked| checked.header);
+    if answer != refused(21, 0) && answer != refused(32, 0) {
+        assert_eq!(alone, found, "list {list:02x?} without a page");
+    }
+    answer
+}
+
+/// What library and reference agree on without a page.
+fn checked_alone(list: &[u8]) -> Result<Checked, Refused> {
+    let expected = check_without_page(list).map(|accepted| accepted.checked());
+    let found = library::check_without_page(list);
+    assert_eq!(found, expected, "list {list:02x?} without a page");
+    found
 }
 
 /// The same with lights equal to codes.
@@ -235,7 +249,7 @@ fn stored_rows_agree() {
         let found = answer(&format!("reads {}", row.call));
         assert_eq!(found.trim(), row.answer, "{}", row.call);
     }
-    assert_eq!(rows.len(), 508);
+    assert_eq!(rows.len(), 563);
 }
 
 #[test]
@@ -484,6 +498,39 @@ fn unfit_lights_come_between_the_page_and_the_records() {
         for lights in FIT.map(named) {
             assert_eq!(checked_in(&lights, &list, PAGE), Ok(header(version)));
         }
+    }
+}
+
+/// What is refused of a list once 21 and 32 are left out, at its own place.
+#[test]
+fn without_a_page_neither_21_nor_32_is_tried() {
+    let alone = |list: &[u8]| checked_alone(list).map(|checked| checked.header);
+    for version in VERSIONS {
+        let (list, places) = list_of_each_kind(version);
+        let mut answers = vec![(list.clone(), Ok(header(version)))];
+        answers.push(([&list[..], &[0]].concat(), refused(6, list.len())));
+        for place in places {
+            answers.push((list[..place].to_vec(), refused(5, place)));
+            for (number, record) in refused_records(version) {
+                let spoilt = [&list[..place], &record, &list[place..]].concat();
+                answers.push((spoilt, refused(number, place)));
+            }
+        }
+        for (list, answer) in answers {
+            assert_eq!(alone(&list), answer);
+            assert_eq!(checked(&list, PAGE - 1), refused(21, 0));
+            assert_eq!(checked_in(&named("flat"), &list, PAGE), refused(32, 0));
+        }
+        for length in 0..HEADER_LENGTH {
+            assert_eq!(alone(&list[..length]), refused(5, 0));
+        }
+        for (number, place, byte) in [(1, 0, 0), (2, 3, 9), (3, 5, 0), (3, 8, 9)] {
+            let mut list = list.clone();
+            list[place] = byte;
+            assert_eq!(alone(&list), refused(number, 0));
+        }
+        let long = [list, vec![0; LONGEST_LIST]].concat();
+        assert_eq!(alone(&long), refused(12, 0));
     }
 }
 

@@ -41,6 +41,9 @@ fn drawn_in(lights: &[u16], list: &[u8], before: &[u8]) -> (Answer, Vec<u8>) {
         Ok(picture) => {
             let pixels = page_length(picture.width, picture.height);
             assert!(found[pixels..] == before[pixels..]);
+            let checked = library::check_list(list, before.len(), lights);
+            let ceiling = checked.expect("the list was drawn").ceiling;
+            assert!(total(&picture.touched) <= ceiling, "{}", told());
         }
         Err(_) => assert!(found == before, "{}", told()),
     }
@@ -118,7 +121,7 @@ fn stored_rows_agree() {
         let found = answer(&format!("lists {}", row.call));
         assert_eq!(found, row.answer, "{}", row.call);
     }
-    assert_eq!(rows.len(), 628);
+    assert_eq!(rows.len(), 706);
 }
 
 #[test]

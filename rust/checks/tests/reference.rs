@@ -8,7 +8,7 @@ use checks::reference_writer::write;
 use checks::rows as answers;
 use reference::exact::{bound, byte_after, exact_blend, touches_at, within};
 use reference::lights::codes;
-use reference::list::{check, draw_list, Accepted};
+use reference::list::{check, check_without_page, draw_list, Accepted};
 use reference::shape::PLAYERS;
 use reference::{column, coverage, page, print, reader};
 
@@ -21,6 +21,9 @@ fn answer(table: &str, call: &str) -> String {
         "reads" => answers::reads(call, reader::read_record),
         "lists" => answers::lists(call, |list, page, lights| {
             draw_list(list, page, lights).map(|drawn| drawn.touched)
+        }),
+        "ceilings" => answers::ceilings(call, |list| {
+            check_without_page(list).map(|accepted| accepted.checked())
         }),
         _ => panic!("no table {table}"),
     }
@@ -37,7 +40,7 @@ fn every_row_of_every_table() {
             count += 1;
         }
     }
-    assert_eq!(count, 594 + 266 + 857 + 478 + 508 + 628);
+    assert_eq!(count, 641 + 310 + 1005 + 519 + 563 + 706 + 124);
 }
 
 #[test]

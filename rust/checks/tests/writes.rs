@@ -11,13 +11,11 @@ use checks::random::Random;
 use checks::reference_writer::write;
 use checks::rows::Writing;
 use reference::format::{encode_header, kind_of, Header, HEADER_LENGTH, LONGEST_LIST};
-use reference::lights::codes;
-use reference::list::check;
+use reference::list::check_without_page;
 use reference::shape::{Basis, Clip, Disc, Record, Ring, Setting, Shape};
 
 const WRITES: u32 = 240_000;
 const LISTS: u32 = 4_000;
-const LARGEST_PAGE: usize = 1024 * 1024;
 /// Every refusal, and every accepted kind, has to come up at least this often.
 const LEAST: u32 = 100;
 
@@ -114,7 +112,7 @@ fn stored_rows_agree() {
         let found = answer(&format!("writes {}", row.call));
         assert_eq!(found.trim(), row.answer, "{}", row.call);
     }
-    assert_eq!(rows.len(), 478);
+    assert_eq!(rows.len(), 519);
 }
 
 #[test]
@@ -236,6 +234,12 @@ fn a_radius_of_one_byte_is_at_most_255() {
     }
 }
 
+/// The header of a list that the library accepts.
+fn checked_header(list: &[u8]) -> Option<Header> {
+    let checked = library::check_without_page(list);
+    checked.ok().map(|checked| checked.header)
+}
+
 /// A disc and a ring of each radius, each as the kind that it was read as.
 #[test]
 fn each_kind_of_circle_comes_back_as_its_own_bytes() {
@@ -263,8 +267,7 @@ fn each_kind_of_circle_comes_back_as_its_own_bytes() {
             list.extend(bytes);
         }
         list.push(0);
-        let checked = library::check_list(&list, LARGEST_PAGE, &codes());
-        assert_eq!(checked, Ok(header));
+        assert_eq!(checked_header(&list), Some(header));
         assert_eq!(written_again(&list, header), list);
     }
 }
@@ -324,8 +327,7 @@ fn each_order_of_corners_comes_back_as_its_own_bytes() {
         list.extend(bytes);
     }
     list.push(0);
-    let checked = library::check_list(&list, LARGEST_PAGE, &codes());
-    assert_eq!(checked, Ok(header));
+    assert_eq!(checked_header(&list), Some(header));
     assert_eq!(written_again(&list, header), list);
 }
 
@@ -396,9 +398,8 @@ fn accepted_lists_written_again_are_their_own_bytes() {
     let mut tally = Tally::default();
     for _ in 0..LISTS {
         let list = list(&mut random);
-        let header = library::check_list(&list, LARGEST_PAGE, &codes());
-        if let Ok(accepted) = check(&list, LARGEST_PAGE, &codes()) {
-            assert_eq!(header, Ok(accepted.header));
+        if let Ok(accepted) = check_without_page(&list) {
+            assert_eq!(checked_header(&list), Some(accepted.header));
             assert_eq!(written_again(&list, accepted.header), list);
             tally.meet(vec![format!("version {}", accepted.header.version)]);
             let shapes = accepted.drawings.iter().map(|drawing| drawing.shape);
@@ -432,11 +433,8 @@ fn written_lists_are_accepted() {
         }
         if written(&mut state, &Writable::Record(Record::End)).is_ok() {
             let list = &state.list[..state.place];
-            assert_eq!(
-                library::check_list(list, LARGEST_PAGE, &codes()),
-                Ok(header)
-            );
-            let told = check(list, LARGEST_PAGE, &codes()).map(|told| told.header);
+            assert_eq!(checked_header(list), Some(header));
+            let told = check_without_page(list).map(|told| told.header);
             assert_eq!(told, Ok(header));
             tally.meet(vec![format!("version {}", header.version)]);
         }

@@ -128,13 +128,14 @@ pub struct ReadAnswer {
     pub numbers: [i32; 6],
 }
 
-/// A list's header.
+/// A list's header, and the ceiling of its touches.
 #[repr(C)]
 pub struct CheckAnswer {
     pub refusal: u32,
     pub place: usize,
     pub basis: GivenBasis,
     pub background: u8,
+    pub ceiling: u64,
 }
 
 /// The page's size and how many touches each player made.
@@ -208,6 +209,7 @@ extern "C" {
         lights: *const u16,
         lights_length: usize,
     ) -> CheckAnswer;
+    pub fn greystroke_check_without_page(list: *const u8, list_length: usize) -> CheckAnswer;
 }
 
 // Safe to call if the list is a slice that nothing else reads or writes meanwhile; any place and

@@ -5,8 +5,9 @@
 //! a pixel, by the [`Lights`] of the screen that will show it. [`coverage`] tells the share of one
 //! pixel that a shape covers, as a fraction that is not reduced, and [`last_column`] how far a line
 //! goes before it leaves a clip for good. A drawing list holds many shapes as bytes: [`Writer`]
-//! makes one, [`read_record`] reads it record by record, [`check_list`] tries it whole, and
-//! [`draw_list`] draws it and counts what each player's shapes touch.
+//! makes one, [`read_record`] reads it record by record, [`check_list`] tries it whole and tells the
+//! ceiling of its touches, [`check_without_page`] does so before there is a page, and [`draw_list`]
+//! draws it and counts what each player's shapes touch.
 //!
 //! ```
 //! use greystroke::{coverage, draw_shape, Clip, Fraction, Lights, Line, Refusal, Shape, Size};
@@ -38,7 +39,8 @@ pub use coverage::{coverage, Fraction};
 pub use drawing::{draw_shape, Clip, Size};
 pub use lights::Lights;
 pub use list::{
-    check_list, read_record, Basis, Header, ListRefusal, Record, Setting, Writer, LATEST_VERSION,
+    check_list, check_without_page, read_record, Basis, Checked, Header, ListRefusal, Record,
+    Setting, Writer, LATEST_VERSION,
 };
 pub use picture::{draw_list, Picture, PLAYERS};
 pub use refusal::Refusal;

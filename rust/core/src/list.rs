@@ -1,9 +1,9 @@
 //! Drawing lists: reading a record, checking a whole list, writing one.
 
 use crate::boundary::{
-    greystroke_read_record, greystroke_write_clip, greystroke_write_end, greystroke_write_header,
-    greystroke_write_level, greystroke_write_player, greystroke_write_shape, GivenBasis,
-    ReadAnswer, WriteAnswer,
+    greystroke_check_without_page, greystroke_read_record, greystroke_write_clip,
+    greystroke_write_end, greystroke_write_header, greystroke_write_level, greystroke_write_player,
+    greystroke_write_shape, CheckAnswer, GivenBasis, ReadAnswer, WriteAnswer,
 };
 use crate::{raw, Clip, Disc, Lights, Line, Refusal, Ring, Shape, Size, Triangle};
 use std::error::Error;
@@ -36,6 +36,15 @@ impl Header {
             size: self.size,
         }
     }
+}
+
+/// What the check of a list tells of it.
+#[derive(Clone, Copy, Debug, PartialEq, Eq)]
+pub struct Checked {
+    pub header: Header,
+    /// The list never has more touches, those of all players together (R6.6 and R10.6 of
+    /// docs/RULES.md).
+    pub ceiling: u64,
 }
 
 /// In force for the shapes that follow, until the next of its kind.
@@ -116,25 +125,55 @@ pub fn read_record(bytes: &[u8], basis: Basis) -> Result<(Record, &[u8]), Refusa
 /// record, the list's length where a record is missing, or the first surplus byte.
 ///
 /// ```
-/// use greystroke::{check_list, Header, Lights, ListRefusal, Refusal, Size};
+/// use greystroke::{check_list, Checked, Header, Lights, ListRefusal, Refusal, Size};
 ///
+/// // Four columns and three rows of level 9, and a disc of radius 1 about corner (1, 1).
+/// let list = *b"INK\x02\x00\x04\x00\x03\x00\x09\x05\x01\x00\x01\x00\x01\x00";
 /// let lights = Lights::codes();
-/// let list = *b"INK\x02\x00\x04\x00\x03\x00\x09\x00";
 /// let size = Size { width: 4, height: 3 };
-/// assert_eq!(check_list(&list, 12, &lights), Ok(Header { version: 2, size, background: 9 }));
+/// let header = Header { version: 2, size, background: 9 };
+/// assert_eq!(check_list(&list, 12, &lights), Ok(Checked { header, ceiling: 4 }));
 ///
-/// let missing_end = ListRefusal { refusal: Refusal::CutShort, place: 10 };
-/// assert_eq!(check_list(&list[..10], 12, &lights), Err(missing_end));
+/// let missing_end = ListRefusal { refusal: Refusal::CutShort, place: 16 };
+/// assert_eq!(check_list(&list[..16], 12, &lights), Err(missing_end));
 /// ```
-pub fn check_list(list: &[u8], page_length: usize, lights: &Lights) -> Result<Header, ListRefusal> {
+pub fn check_list(
+    list: &[u8],
+    page_length: usize,
+    lights: &Lights,
+) -> Result<Checked, ListRefusal> {
     raw::check_list(list, page_length, lights.as_slice())
+}
+
+/// Tries a whole list before there is a page or lights for it.
+///
+/// # Errors
+///
+/// Those of [`check_list`] but [`Refusal::PageTooShort`], in their order and at their places.
+///
+/// ```
+/// use greystroke::{check_list, check_without_page, Lights, ListRefusal, Refusal};
+///
+/// let list = *b"INK\x02\x00\x04\x00\x03\x00\x09\x05\x01\x00\x01\x00\x01\x00";
+/// let checked = check_without_page(&list);
+/// assert_eq!(checked.map(|checked| checked.ceiling), Ok(4));
+/// assert_eq!(checked, check_list(&list, 12, &Lights::codes()));
+///
+/// let refused = |refusal, place| Err(ListRefusal { refusal, place });
+/// let cut = &list[..13];
+/// assert_eq!(check_list(cut, 11, &Lights::codes()), refused(Refusal::PageTooShort, 0));
+/// assert_eq!(check_without_page(cut), refused(Refusal::CutShort, 10));
+/// ```
+pub fn check_without_page(list: &[u8]) -> Result<Checked, ListRefusal> {
+    // SAFETY: the list is a slice.
+    checked(unsafe { greystroke_check_without_page(list.as_ptr(), list.len()) })
 }
 
 /// A list being written into lent bytes, the place reached, and what records are written against.
 /// Any place and any basis may be set: what does not fit them is refused.
 ///
 /// ```
-/// use greystroke::{check_list, Header, Lights, Record, Refusal, Setting, Size, Writer};
+/// use greystroke::{check_without_page, Header, Record, Refusal, Setting, Size, Writer};
 /// use greystroke::LATEST_VERSION;
 ///
 /// let size = Size { width: 4, height: 3 };
@@ -147,7 +186,7 @@ pub fn check_list(list: &[u8], page_length: usize, lights: &Lights) -> Result<He
 /// assert_eq!(writer.write_record(Record::End), Ok(()));
 /// assert_eq!(writer.write_record(Record::End), Err(Refusal::NoRoom));
 /// assert_eq!(writer.place, 13);
-/// assert_eq!(check_list(&list, 12, &Lights::codes()), Ok(header));
+/// assert_eq!(check_without_page(&list).map(|checked| checked.header), Ok(header));
 /// ```
 #[derive(Debug)]
 pub struct Writer<'a> {
@@ -240,6 +279,20 @@ pub(crate) fn accepted_list(number: u32, place: usize) -> Result<(), ListRefusal
     }
 }
 
+/// What either check of a list answers.
+pub(crate) fn checked(answer: CheckAnswer) -> Result<Checked, ListRefusal> {
+    accepted_list(answer.refusal, answer.place)?;
+    let Basis { version, size } = basis_of(answer.basis);
+    Ok(Checked {
+        header: Header {
+            version,
+            size,
+            background: answer.background,
+        },
+        ceiling: answer.ceiling,
+    })
+}
+
 /// Nothing, or the refusal of any other call. Its place is 0: a library that tells another is not
 /// the one that this wrapper was written for.
 #[inline]
@@ -248,7 +301,7 @@ pub(crate) fn accepted_call(number: u32, place: usize) -> Result<(), Refusal> {
     accepted_list(number, place).map_err(|refused| refused.refusal)
 }
 
-pub(crate) fn basis_of(basis: GivenBasis) -> Basis {
+fn basis_of(basis: GivenBasis) -> Basis {
     Basis {
         version: narrow(basis.version),
         size: size_of(basis.w, basis.h),

@@ -3,8 +3,8 @@
 //! the calls of the same names outside of this module serve.
 
 use crate::boundary::{greystroke_check_list, greystroke_draw_list, greystroke_draw_shape};
-use crate::list::{accepted_call, accepted_list, basis_of, size_of};
-use crate::{Basis, Clip, Header, ListRefusal, Picture, Refusal, Shape, Size};
+use crate::list::{accepted_call, accepted_list, checked, size_of};
+use crate::{Checked, Clip, ListRefusal, Picture, Refusal, Shape, Size};
 
 /// What [`crate::draw_shape`] does.
 ///
@@ -80,9 +80,9 @@ pub fn draw_list(page: &mut [u8], lights: &[u16], list: &[u8]) -> Result<Picture
 /// // Lights come before every record: this list has no end.
 /// assert_eq!(raw::check_list(&list[..10], 12, &[9; 256]), refused(Refusal::Lights));
 /// ```
-pub fn check_list(list: &[u8], page_length: usize, lights: &[u16]) -> Result<Header, ListRefusal> {
+pub fn check_list(list: &[u8], page_length: usize, lights: &[u16]) -> Result<Checked, ListRefusal> {
     // SAFETY: list and lights are slices, and the page's length is a plain number by value.
-    let answer = unsafe {
+    checked(unsafe {
         greystroke_check_list(
             list.as_ptr(),
             list.len(),
@@ -90,12 +90,5 @@ pub fn check_list(list: &[u8], page_length: usize, lights: &[u16]) -> Result<Hea
             lights.as_ptr(),
             lights.len(),
         )
-    };
-    accepted_list(answer.refusal, answer.place)?;
-    let Basis { version, size } = basis_of(answer.basis);
-    Ok(Header {
-        version,
-        size,
-        background: answer.background,
     })
 }

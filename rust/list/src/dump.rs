@@ -1,10 +1,8 @@
 //! A list into a text.
 
 use crate::words::{header_words, record_words};
-use greystroke::{check_list, read_record, Header, Lights, ListRefusal};
+use greystroke::{check_without_page, read_record, Header, ListRefusal};
 
-/// No page has more bytes, so that no list is refused for want of a page.
-const LARGEST_PAGE: usize = 1024 * 1024;
 const HEADER_LENGTH: usize = 10;
 /// Comments begin here, unless the record is longer.
 const COMMENT_COLUMN: usize = 28;
@@ -12,24 +10,29 @@ const COMMENT_COLUMN: usize = 28;
 /// What a list holds.
 #[derive(Clone, Debug, PartialEq, Eq)]
 pub struct Dumped {
-    /// Its header and its records, up to its refusal if it has one.
+    /// Its header and its records, up to its refusal if it has one; then the refusal, or else the
+    /// ceiling of its touches.
     pub text: String,
     pub refusal: Option<ListRefusal>,
 }
 
-/// The text of a list, each line with its place; a refused list up to the place of its refusal,
-/// and then the refusal.
+/// The text of a list, each line with its place, and then its ceiling; a refused list up to the
+/// place of its refusal, and then the refusal.
 pub fn dump(list: &[u8]) -> Dumped {
-    let refusal = checked(list).err();
+    let checked = check_without_page(list);
+    let refusal = checked.err();
     let stop = refusal.map_or(list.len(), |refusal| refusal.place);
     let mut text = String::new();
     if stop >= HEADER_LENGTH {
         dump_until(stop, list, &mut text);
     }
-    if let Some(ListRefusal { refusal, place }) = refusal {
-        let (number, reason) = (refusal.number(), refusal.reason());
-        text += &format!("# refused {number} at {place}: {reason}\n");
-    }
+    text += &match checked {
+        Ok(checked) => format!("# ceiling {}\n", checked.ceiling),
+        Err(ListRefusal { refusal, place }) => {
+            let (number, reason) = (refusal.number(), refusal.reason());
+            format!("# refused {number} at {place}: {reason}\n")
+        }
+    };
     Dumped { text, refusal }
 }
 
@@ -50,12 +53,8 @@ fn dump_until(stop: usize, list: &[u8], text: &mut String) {
 fn header_of(list: &[u8]) -> Header {
     let mut header_and_end = list[..HEADER_LENGTH].to_vec();
     header_and_end.push(0);
-    checked(&header_and_end).expect("the header is not refused")
-}
-
-/// What the library says of a list, whatever page and lights it is drawn with.
-fn checked(list: &[u8]) -> Result<Header, ListRefusal> {
-    check_list(list, LARGEST_PAGE, &Lights::codes())
+    let checked = check_without_page(&header_and_end);
+    checked.expect("the header is not refused").header
 }
 
 fn line(words: &str, place: usize) -> String {

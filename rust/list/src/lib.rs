@@ -11,6 +11,7 @@
 //!
 //! let dumped = list::dump(&list);
 //! assert_eq!(dumped.refusal, None);
+//! assert!(dumped.text.ends_with("# ceiling 6\n"));
 //! assert_eq!(list::make(dumped.text.as_bytes()), Ok(list));
 //! ```
 

@@ -8,7 +8,8 @@ use std::{env, fs};
 
 const USAGE: &str = "\
 list make [TEXT] > LIST   turns a text (of standard input, or this file) into a drawing list
-list dump [LIST]          prints a drawing list as text, each record with its place";
+list dump [LIST]          prints a drawing list as text, each record with its place, and last the
+                          ceiling of its touches, or its refusal";
 
 const WRONG: u8 = 1;
 const FAILED: u8 = 2;

@@ -2,13 +2,12 @@
 
 use checks::listings::{damage, lawful_record, list as any_list};
 use checks::random::Random;
-use greystroke::{check_list, Lights, Refusal};
+use greystroke::{check_without_page, Refusal};
 use list::{dump, make, LONGEST_LIST};
 use reference::format::{encode_header, encode_record, Header};
 use std::fs;
 use std::path::{Path, PathBuf};
 
-const LARGEST_PAGE: usize = 1024 * 1024;
 const ROUNDS: u32 = 3_000;
 
 /// A list of each kind of record, and its text as it is dumped.
@@ -25,6 +24,7 @@ bigdisc 4095 -4096 1023      # at 54
 bigring -1 0 255 255         # at 61
 triangle 7 -2 -120 9 0 125   # at 70
 end                          # at 83
+# ceiling 0
 ";
 
 /// The same in version 1, which has no player, no big disc or ring and no triangle.
@@ -37,6 +37,7 @@ approximate 7 -2 -4096 4095  # at 30
 disc 4095 -4096 255          # at 39
 ring -1 0 255 255            # at 45
 end                          # at 52
+# ceiling 0
 ";
 
 fn examples() -> Vec<PathBuf> {
@@ -72,17 +73,25 @@ fn places(text: &str) -> Vec<usize> {
     places.map(|(_, place)| place.parse().unwrap()).collect()
 }
 
-/// A dump tells the refusal that the check of the list tells, and stops at its place.
+/// A dump tells the ceiling that the check of the list tells, or the refusal, and stops at its place.
 fn assert_told(list: &[u8]) -> Option<Refusal> {
     let dumped = dump(list);
-    let refused = check_list(list, LARGEST_PAGE, &Lights::codes()).err();
-    assert_eq!(dumped.refusal, refused, "{list:02x?}");
-    let last = dumped.text.lines().last().unwrap_or_default();
-    let Some(refused) = refused else {
-        assert!(last.starts_with("end "), "{}", dumped.text);
-        assert_eq!(make(dumped.text.as_bytes()).as_deref(), Ok(list));
-        return None;
+    let checked = check_without_page(list);
+    assert_eq!(dumped.refusal, checked.err(), "{list:02x?}");
+    let mut lines = dumped.text.lines();
+    let last = lines.next_back().unwrap_or_default();
+    let refused = match checked {
+        Err(refused) => refused,
+        Ok(checked) => {
+            assert_eq!(last, format!("# ceiling {}", checked.ceiling));
+            let end = lines.next_back().unwrap_or_default();
+            assert!(end.starts_with("end "), "{}", dumped.text);
+            assert_eq!(dumped.text.matches("ceiling").count(), 1);
+            assert_eq!(make(dumped.text.as_bytes()).as_deref(), Ok(list));
+            return None;
+        }
     };
+    assert!(!dumped.text.contains("ceiling"), "{}", dumped.text);
     let (number, place) = (refused.refusal.number(), refused.place);
     let told = format!("# refused {number} at {place}: ");
     assert!(last.starts_with(&told), "{last} is not {told}");
@@ -157,6 +166,25 @@ fn examples_are_made_from_their_texts_and_dumped() {
         let text = fs::read(file.with_extension("txt")).expect("each list has its text");
         assert_eq!(make(&text).as_ref(), Ok(&stored), "{}", file.display());
         assert_eq!(assert_told(&stored), None);
+    }
+}
+
+/// Lines by three times their longer spans, discs and rings by four times the radius squared, the
+/// triangle by its box, and what the clip keeps of each.
+#[test]
+fn the_ceiling_follows_the_records() {
+    let shapes = "exact 1 1 3 2\ndisc 9 9 2\nring 9 9 5 1\ntriangle 2 2 9 4 5 7\n";
+    for (clip, ceiling) in [
+        ("", 6 + 16 + 100 + 35),
+        ("clip 3 4 9 9\n", 6 + 16 + 30 + 30),
+        ("clip 3 4 3 9\n", 0),
+    ] {
+        let text = format!("page 20 16 9\n{clip}{shapes}clip 0 0 1 1\nend\n");
+        let dumped = dump(&make(text.as_bytes()).unwrap()).text;
+        assert!(
+            dumped.ends_with(&format!("# ceiling {ceiling}\n")),
+            "{dumped}"
+        );
     }
 }
 

@@ -1,5 +1,6 @@
 //! A whole list: checking it, and drawing it on a lent page.
 
+use crate::ceiling::list_ceiling;
 use crate::format::{decode_header, Header, HEADER_LENGTH, LONGEST_LIST};
 use crate::lights::lights_refusal;
 use crate::page::{page_length, paint};
@@ -23,6 +24,22 @@ pub struct Accepted {
     pub drawings: Vec<Drawing>,
 }
 
+/// What the check of an accepted list answers.
+#[derive(Clone, Copy, Debug, PartialEq, Eq)]
+pub struct Checked {
+    pub header: Header,
+    pub ceiling: u64,
+}
+
+impl Accepted {
+    pub fn checked(&self) -> Checked {
+        Checked {
+            header: self.header,
+            ceiling: list_ceiling(&self.drawings),
+        }
+    }
+}
+
 #[derive(Clone, Copy, Debug, PartialEq, Eq)]
 pub struct Drawn {
     pub width: u16,
@@ -33,8 +50,25 @@ pub struct Drawn {
 
 /// Tries the whole list, as it would be drawn on a page of `page_bytes` bytes in these lights.
 pub fn check(list: &[u8], page_bytes: usize, lights: &[u16]) -> Result<Accepted, Refused> {
-    let header = check_header(list, page_bytes).map_err(|refusal| refusal.at(0))?;
-    if let Some(refusal) = lights_refusal(lights) {
+    check_by(list, |header| {
+        let too_short = page_bytes < page_length(header.width, header.height);
+        let too_short = too_short.then_some(Refusal::PageTooShort);
+        too_short.or_else(|| lights_refusal(lights))
+    })
+}
+
+/// The same of the list alone: neither 21 nor 32 is tried.
+pub fn check_without_page(list: &[u8]) -> Result<Accepted, Refused> {
+    check_by(list, |_| None)
+}
+
+/// What page and lights are refused for comes between the header and the records.
+fn check_by(
+    list: &[u8],
+    page_refusal: impl Fn(&Header) -> Option<Refusal>,
+) -> Result<Accepted, Refused> {
+    let header = check_header(list).map_err(|refusal| refusal.at(0))?;
+    if let Some(refusal) = page_refusal(&header) {
         return Err(refusal.at(0));
     }
     let records = check_records(list, &header)?;
@@ -44,19 +78,16 @@ pub fn check(list: &[u8], page_bytes: usize, lights: &[u16]) -> Result<Accepted,
     })
 }
 
-/// 12, 5, 1, 2, 3, 21.
-fn check_header(list: &[u8], page_bytes: usize) -> Result<Header, Refusal> {
+/// 12, 5, 1, 2, 3.
+fn check_header(list: &[u8]) -> Result<Header, Refusal> {
     if list.len() > LONGEST_LIST {
         return Err(Refusal::ListTooLong);
     }
     let header = decode_header(list)?;
-    if let Some(refusal) = page_size_refusal(header.width, header.height) {
-        return Err(refusal);
+    match page_size_refusal(header.width, header.height) {
+        Some(refusal) => Err(refusal),
+        None => Ok(header),
     }
-    if page_bytes < page_length(header.width, header.height) {
-        return Err(Refusal::PageTooShort);
-    }
-    Ok(header)
 }
 
 /// The records before the end record: each tried 4, 5, then 7, 8, 9, 10, 33, 11, 31, 34 and 35 as its
@@ -172,5 +203,7 @@ mod tests {
         assert_eq!(number(0, &[]), (21, 0));
         assert_eq!(number(1, &[]), (32, 0));
         assert_eq!(number(1, &codes()), (5, HEADER_LENGTH));
+        let alone = check_without_page(&header());
+        assert_eq!(alone, Err(Refusal::CutShort.at(HEADER_LENGTH)));
     }
 }

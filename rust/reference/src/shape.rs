@@ -59,6 +59,20 @@ impl Triangle {
     pub fn corners(&self) -> [(i16, i16); 3] {
         [(self.x0, self.y0), (self.x1, self.y1), (self.x2, self.y2)]
     }
+
+    pub fn width(&self) -> u16 {
+        extent([self.x0, self.x1, self.x2])
+    }
+
+    pub fn height(&self) -> u16 {
+        extent([self.y0, self.y1, self.y2])
+    }
+}
+
+/// The greatest number less the smallest.
+fn extent(numbers: [i16; 3]) -> u16 {
+    let [a, b, c] = numbers;
+    a.max(b).max(c).abs_diff(a.min(b).min(c))
 }
 
 #[derive(Clone, Copy, Debug, PartialEq, Eq)]
@@ -143,17 +157,10 @@ fn width_refusal(ring: &Ring) -> Option<Refusal> {
     (ring.width == 0 || ring.width > ring.radius).then_some(Refusal::RingWidth)
 }
 
-/// 34 if the greatest x less the smallest, or the greatest y less the smallest, is above 127.
+/// 34 if the width or the height is above 127.
 fn size_refusal(triangle: &Triangle) -> Option<Refusal> {
-    let extent = |numbers: [i16; 3]| {
-        let numbers = numbers.map(i32::from);
-        let greatest = numbers[0].max(numbers[1]).max(numbers[2]);
-        let smallest = numbers[0].min(numbers[1]).min(numbers[2]);
-        greatest - smallest
-    };
-    let width = extent([triangle.x0, triangle.x1, triangle.x2]);
-    let height = extent([triangle.y0, triangle.y1, triangle.y2]);
-    (width.max(height) > LARGEST_TRIANGLE.into()).then_some(Refusal::TriangleSize)
+    let larger = triangle.width().max(triangle.height());
+    (larger > LARGEST_TRIANGLE).then_some(Refusal::TriangleSize)
 }
 
 /// 35 if the third corner is on the straight line through the first two: its way from the first is
@@ -229,6 +236,11 @@ impl Clip {
 
     pub fn keeps(&self, x: u16, y: u16) -> bool {
         self.x0 <= x && x < self.x1 && self.y0 <= y && y < self.y1
+    }
+
+    /// How many pixels a lawful clip keeps.
+    pub fn pixels(&self) -> u64 {
+        u64::from(self.x1 - self.x0) * u64::from(self.y1 - self.y0)
     }
 
     /// 8 unless the corners are in order and on the page.

@@ -16,7 +16,7 @@ use Rattle.drawing.proofs.draw_list.Tie as tie
 abbrev start : tie.After-check-tried → tie.Start
 start c = c .before .before .before .before .before
 
--- a list that is accepted, the page, the lights and the header
+-- a list that is accepted, the page, the lights, the header and the ceiling
 abbrev list : tie.After-checked2 → List ℕ
 list c = now (start (c .before .before) .args .list)
 
@@ -29,25 +29,28 @@ lights c = now (start (c .before .before) .args .lights)
 abbrev header : tie.After-checked2 → Header
 header c = c .checked2 .given .0 .0
 
-accepted : (c : tie.After-checked2) → Accepted (header c) ≡ checkedOf (list c) (length (page c)) (lights c)
+abbrev ceiling : tie.After-checked2 → ℕ
+ceiling c = c .checked2 .given .0 .1 .0
+
+accepted : (c : tie.After-checked2) → Accepted (header c) (ceiling c) ≡ checkedOf (list c) (length (page c)) (lights c)
 accepted c = sym (c .checked2 .given .1) ∙ c .before .before .check-tried .ensures
 
 mul-n : tie.Need-mul-n
-mul-n c = let a = c .before .before .before in record { fits = few (lights a) (list a) (page a) (header a) (accepted a) }
+mul-n c = let a = c .before .before .before in record { fits = few (lights a) (list a) (page a) (header a) (ceiling a) (accepted a) }
 
 slice-relend-prefix-paint-in : tie.Need-slice-relend-prefix-paint-in
-slice-relend-prefix-paint-in c = let a = c .before .before .before .before in lent-room (lights a) (list a) (page a) (header a) (accepted a)
+slice-relend-prefix-paint-in c = let a = c .before .before .before .before in lent-room (lights a) (list a) (page a) (header a) (ceiling a) (accepted a)
 
 slice-aggregate-paint-in : tie.Need-slice-aggregate-paint-in
-slice-aggregate-paint-in c = let a = c .before .before .before .before .before in lent-length (lights a) (list a) (page a) (header a) (accepted a)
+slice-aggregate-paint-in c = let a = c .before .before .before .before .before in lent-length (lights a) (list a) (page a) (header a) (ceiling a) (accepted a)
 
 paint-in-requires : tie.Need-paint-in-requires
 paint-in-requires c κs =
     let basis = c .before in
     let a = basis .before .before .before .before in (
-      fit (lights a) (list a) (page a) (header a) (accepted a),
+      fit (lights a) (list a) (page a) (header a) (ceiling a) (accepted a),
       a .before .before .before .kind-of .ensures,
-      rw (basis .basis-of .ensures) (lent-drawable (lights a) (list a) (page a) (header a) (accepted a)),
+      rw (basis .basis-of .ensures) (lent-drawable (lights a) (list a) (page a) (header a) (ceiling a) (accepted a)),
     )
 
 returns : tie.Need-returns
@@ -61,7 +64,7 @@ returns-2 c =
     let done = c .before .before in
     let basis = done .before .before in
     let a = basis .before .before .before .before in
-    accepted-claim (lights a) (list a) (page a) (header a) (accepted a) (rw (basis .basis-of .ensures) at (done .paint-in .ensures))
+    accepted-claim (lights a) (list a) (page a) (header a) (ceiling a) (accepted a) (rw (basis .basis-of .ensures) at (done .paint-in .ensures))
 
 pub draw-list-spec : {M : Type 1} → statement M
 draw-list-spec =

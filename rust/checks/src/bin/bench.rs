@@ -10,8 +10,9 @@ use checks::lights::named;
 use checks::random::Random;
 use checks::{baseline, baseline_list};
 use greystroke::{
-    check_list, draw_list, draw_shape, Clip, Disc, Header, Lights, Line, ListRefusal, Picture,
-    Record, Refusal, Ring, Setting, Shape, Size, Triangle, Writer, LATEST_VERSION, PLAYERS,
+    check_list, check_without_page, draw_list, draw_shape, Checked, Clip, Disc, Header, Lights,
+    Line, ListRefusal, Picture, Record, Refusal, Ring, Setting, Shape, Size, Triangle, Writer,
+    LATEST_VERSION, PLAYERS,
 };
 use std::hint::black_box;
 use std::ops::RangeInclusive;
@@ -34,7 +35,8 @@ const REPEATS: usize = 32;
 type Make = fn(&mut Random) -> Shape;
 type Draw = fn(&mut [u8], Size, &Lights, Clip, u8, Shape) -> Result<u64, Refusal>;
 type DrawList = fn(&mut [u8], &Lights, &[u8]) -> Result<Picture, ListRefusal>;
-type CheckList = fn(&[u8], usize, &Lights) -> Result<Header, ListRefusal>;
+type CheckList = fn(&[u8], usize, &Lights) -> Result<Checked, ListRefusal>;
+type CheckWithoutPage = fn(&[u8]) -> Result<Checked, ListRefusal>;
 
 /// The gamma of a screen, as the tables have it.
 fn gamma() -> Lights {
@@ -518,6 +520,14 @@ fn print_list_ratios() {
         })
         .collect();
     print_ratio("check_list", (1, "list"), &inputs, &jobs);
+
+    let ways: [CheckWithoutPage; 2] = [check_without_page, baseline_list::check_without_page];
+    let jobs = ways.map(|check| {
+        let list = &list;
+        move |_: &mut [u8]| check(black_box(list)).expect("a lawful list")
+    });
+    let inputs = format!("{inputs} without a page");
+    print_ratio("check_without_page", (1, "list"), &inputs, &jobs);
 }
 
 /// One shape, drawn again and again on a square page.

@@ -34,7 +34,7 @@ check-records-requires : tie.Need-check-records-requires
 check-records-requires c κs =
     let read = c .before .before in
     let d = headed [] (list (read .before)) (none (read .before)) in
-    (d .least, rw (read .read-header .ensures) (d .basis))
+    (d .least, d .most, rw (read .read-header .ensures) (d .basis))
 
 returns-3 : tie.Need-returns-3
 returns-3 c =

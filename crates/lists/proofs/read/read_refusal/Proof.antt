@@ -1,8 +1,8 @@
--- The refusal of the basis is tried first; where there is none, that of the record is the answer.
-use mathlib.Core.Path.{_≡_, sym, _∙_}
+-- The refusal of the basis is tried first, then what is refused before the record is read, then that of the record.
+use mathlib.Core.Path.{sym, _∙_}
 use native.Mathlib.Omega.{arith}
 use borrow.Author.Needs.{needs}
-use borrow.Author.Tests.{lt-ltb}
+use borrow.Author.Tests.{lt-ltb, le-ltb}
 use Rattle.lists.specs.Read.{readRefusal}
 use Rattle.lists.proofs.read.read_refusal.Statement.{statement}
 use Rattle.lists.proofs.read.read_refusal.Tie as tie
@@ -11,8 +11,19 @@ returns : tie.Need-returns
 unfolding readRefusal
 returns c = simp (← c .before .basis-refusal .ensures, lt-ltb _ _ (c .if1 .taken))
 
-front-refusal-requires : tie.Need-front-refusal-requires
-front-refusal-requires c κs = sym (c .before .basis-refusal .ensures) ∙ omega arith
+opening-refusal-requires : tie.Need-opening-refusal-requires
+opening-refusal-requires c κs = sym (c .before .basis-refusal .ensures) ∙ omega arith
+
+returns-2 : tie.Need-returns-2
+returns-2 c = sym (c .before .opening-refusal .ensures .refusal ∙ rw (lt-ltb 0 _ (c .if2 .taken)))
+
+decode-requires : tie.Need-decode-requires
+decode-requires c κs = c .before .opening-refusal .ensures .whole (omega arith)
+
+returns-3 : tie.Need-returns-3
+returns-3 c =
+    let two = c .before .before in
+    rw (c .before .decode .ensures) at (c .record-refusal .ensures) ∙ sym (two .before .opening-refusal .ensures .refusal ∙ rw (le-ltb 0 _ (two .if2 .left)))
 
 pub read-refusal-spec : {M : Type 1} → statement M
 read-refusal-spec =
@@ -20,5 +31,8 @@ read-refusal-spec =
     (tie.spec
     (λ c κs. search needs)
     returns
-    front-refusal-requires
-    (λ c. search needs))
+    opening-refusal-requires
+    returns-2
+    decode-requires
+    (λ c κs. search needs)
+    returns-3)
