@@ -476,7 +476,7 @@ fn try_shape(shape: Shape, pixels: u64) -> Tried
     }
 }
 
-// Tries a record. Its kind is told apart once for all that the check of a list asks: most of the check's time goes into that.
+// Tries a record. Its kind is told apart once for all that the check of a list asks; asked one by one, the check takes about twice as long.
 pub fn try_record(basis: Basis, rec: Record, pixels: u64) -> Tried
     ensures { λ r. ⌜ r ≡ recordTried basis pixels rec ⌝ }
 {
