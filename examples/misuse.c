@@ -1,7 +1,7 @@
 /* Misuses every call: numbers out of their ranges and far out of 16 bits, versions that there are
  * not, kinds that are no shape, no line or not of a version, lights that do not rise, no memory at
- * all, lists cut at each byte, places past the list. Each answer must tell the refusal and its
- * place, and what was lent must be as it was. */
+ * all, lists cut at each byte, places past the list, too little room. Each answer must tell the
+ * refusal and its place, and what was lent must be as it was. */
 #include "greystroke.h"
 
 #include <stdbool.h>
@@ -71,6 +71,17 @@ static bool same(struct greystroke_basis one, struct greystroke_basis other) {
         struct greystroke_check_answer got = call;                                   \
         expect(#call, got.refusal, got.place, (uint32_t)(number), (at));             \
         if (!same(got.basis, none) || got.background != 0 || got.ceiling != 0) {     \
+            wrong = true;                                                            \
+            printf("%s: more is told than the refusal\n", #call);                    \
+        }                                                                            \
+    } while (0)
+
+/* The same of a squeezed list: a refused one has no length. */
+#define SQUEEZE_REFUSED(number, at, call)                                            \
+    do {                                                                             \
+        struct greystroke_squeeze_answer got = call;                                 \
+        expect(#call, got.refusal, got.place, (uint32_t)(number), (at));             \
+        if (got.length != 0) {                                                       \
             wrong = true;                                                            \
             printf("%s: more is told than the refusal\n", #call);                    \
         }                                                                            \
@@ -455,7 +466,8 @@ static void expect_touches(struct greystroke_list_answer drawn, size_t player) {
 }
 
 /* A refusal of the header comes before those of the page and the lights, and one of the records
- * after them; without a page neither of the two is tried. */
+ * after them; without a page neither of the two is tried. To be squeezed, a list is refused alike
+ * with room and without. */
 static void try_list(uint32_t number, size_t place, const uint8_t *bytes, size_t length) {
     CHECK_REFUSED(number, place, check_list(bytes, length, sizeof page));
     CHECK_REFUSED(number, place, greystroke_check_without_page(bytes, length));
@@ -463,6 +475,8 @@ static void try_list(uint32_t number, size_t place, const uint8_t *bytes, size_t
         greystroke_check_list(bytes, length, sizeof page - 1, NULL, 0));
     CHECK_REFUSED(place > 0 ? GREYSTROKE_LIGHTS : number, 0,
         greystroke_check_list(bytes, length, sizeof page, NULL, 0));
+    SQUEEZE_REFUSED(number, place, greystroke_squeeze_list(room, sizeof room, bytes, length));
+    SQUEEZE_REFUSED(number, place, greystroke_squeeze_list(NULL, 0, bytes, length));
     REFUSED(list, number, place, draw_list(page, sizeof page, bytes, length));
     expect_touches(draw_list(page, sizeof page, bytes, length), PLAYERS);
 }
@@ -492,6 +506,19 @@ static void try_lengths(void) {
         REFUSED(list, GREYSTROKE_PAGE_TOO_SHORT, 0, draw_list(page, n, list, length));
     }
     REFUSED(list, GREYSTROKE_PAGE_TOO_SHORT, 0, draw_list(NULL, 0, list, length));
+}
+
+/* All of the list but its clip, which is the one that a list starts with. */
+static size_t squeezed_length(void) {
+    return starts[records - 1] - (starts[CLIP_RECORD + 1] - starts[CLIP_RECORD]);
+}
+
+/* Room for less than the squeezed list. */
+static void try_rooms(void) {
+    size_t length = starts[records - 1];
+    for (size_t n = 0; n < squeezed_length(); n++)
+        SQUEEZE_REFUSED(GREYSTROKE_NO_ROOM, 0, greystroke_squeeze_list(room, n, list, length));
+    SQUEEZE_REFUSED(GREYSTROKE_NO_ROOM, 0, greystroke_squeeze_list(NULL, 0, list, length));
 }
 
 /* Unfit lights for a list: at place 0, before its records and after its header and the page. */
@@ -658,6 +685,23 @@ static void expect_checked(struct greystroke_check_answer answer) {
     }
 }
 
+/* The squeezed list is written into room of so many bytes, and no byte past it. */
+static void expect_squeezed(size_t room_length) {
+    size_t length = squeezed_length();
+    size_t clip_end = starts[CLIP_RECORD + 1];
+    struct greystroke_squeeze_answer answer =
+        greystroke_squeeze_list(room, room_length, list, starts[records - 1]);
+    if (answer.refusal != 0 || answer.place != 0 || answer.length != length
+        || memcmp(room, list, starts[CLIP_RECORD]) != 0
+        || memcmp(room + starts[CLIP_RECORD], list + clip_end, starts[records - 1] - clip_end) != 0
+        || !all_are(room + length, sizeof room - length)) {
+        wrong = true;
+        printf("the list was not squeezed: %u, length %zu\n", (unsigned)answer.refusal,
+            answer.length);
+    }
+    memset(room, BYTE, sizeof room);
+}
+
 /* What is lawful is taken. */
 static void try_lawful(void) {
     static const struct greystroke_clip corner = {6, 6, SIDE, SIDE};
@@ -681,6 +725,9 @@ static void try_lawful(void) {
         expect_read(FIRST_SHAPE + s, lawful[s].kind, lawful[s].numbers);
     expect_checked(check_list(list, length, sizeof page));
     expect_checked(greystroke_check_without_page(list, length));
+    expect_squeezed(squeezed_length());
+    expect_squeezed(squeezed_length() + 1);
+    expect_squeezed(sizeof room);
     struct greystroke_list_answer drawn =
         draw_list(page, sizeof page, list, length);
     if (drawn.refusal != 0 || drawn.w != SIDE || drawn.h != SIDE
@@ -706,6 +753,7 @@ int main(void) {
     try_players();
     try_places();
     try_lengths();
+    try_rooms();
     try_all_lights();
     try_bytes();
     try_records();

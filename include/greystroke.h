@@ -5,9 +5,10 @@
  *
  * Memory. A page, a list and lights are each lent as their first element and their length; a
  * length of 0 may come with any pointer, NULL too. Lights are aligned as uint16_t. While a call
- * runs, nothing else may write what it was lent, nor read what it was lent to write, and a page may
- * overlap neither a list nor lights. No call keeps what it was lent, and none has a state of its
- * own: calls may run side by side, and share what they only read.
+ * runs, nothing else may write what it was lent, nor read what it was lent to write. A page may
+ * overlap neither a list nor lights, and a squeezed list not the list that it is made from. No call
+ * keeps what it was lent, and none has a state of its own: calls may run side by side, and share
+ * what they only read.
  *
  * A page of W by H has pixel (x, y) at byte y * W + x (R1.2). It may be longer: bytes past W * H
  * are never written. A byte of a page is a code.
@@ -22,8 +23,8 @@
  * refused, and nothing is narrowed in silence.
  *
  * Answers. Each begins with `refusal`, 0 for none, and `place`, the place of the refusal (R8.3):
- * the list's place for greystroke_draw_list, greystroke_check_list and
- * greystroke_check_without_page, 0 for every other call, and 0 where nothing is refused. After a
+ * the list's place for greystroke_draw_list, greystroke_check_list, greystroke_check_without_page
+ * and greystroke_squeeze_list, 0 for every other call, and 0 where nothing is refused. After a
  * refusal all that was lent is as it was (R8.1), and the further fields are 0, but for what a
  * writer holds. Where several refusals apply, the first in the order that is given for the call is
  * told. */
@@ -59,7 +60,8 @@ enum greystroke_refusal {
     GREYSTROKE_LIST_TOO_LONG = 12,    /* a list of more than 65,536 bytes */
     GREYSTROKE_PAGE_TOO_SHORT = 21,   /* a page shorter than W * H bytes */
     GREYSTROKE_NO_ROOM = 22,          /* too few bytes left in a list being written, or a place of a
-                                         record under 10 or past the list */
+                                         record under 10 or past the list, or too few bytes for a
+                                         squeezed list */
     GREYSTROKE_PLAYER = 31,           /* a player above 7 */
     GREYSTROKE_LIGHTS = 32,           /* lights not 256 in number, or not strictly rising */
     GREYSTROKE_RADIUS_TOO_LARGE = 33, /* a radius above 1,023, or above 255 in a record of kind 5
@@ -270,6 +272,25 @@ struct greystroke_check_answer greystroke_check_list(
  * same order, at the same places (R8.2), and of an accepted list the same answer. */
 struct greystroke_check_answer greystroke_check_without_page(
     const uint8_t *list, size_t list_length);
+
+/* How many bytes the squeezed list has. */
+struct greystroke_squeeze_answer {
+    uint32_t refusal;
+    size_t place;
+    size_t length;
+};
+
+/* Writes a list to `squeezed` without the settings that change nothing (R7.8): before each shape it
+ * has only those whose value differs from the one at the shape before, at the first shape from the
+ * start value, in the order clip, level, player, and none behind the last shape. Header, shapes and
+ * end are those of the list, byte for byte. It is drawn alike, with the same counts, bounds and
+ * ceiling, it is no longer than the list, and squeezed again it is the same bytes; lists with the
+ * same header and the same shapes under the same settings are squeezed to the same bytes (R10.7).
+ * So list_length bytes are always enough. Bytes past the squeezed list keep their contents.
+ * Refused: as by greystroke_check_without_page, in the same order, at the same places, then 22 at
+ * place 0 where the squeezed list is longer than `squeezed` (R8.2). */
+struct greystroke_squeeze_answer greystroke_squeeze_list(
+    uint8_t *squeezed, size_t squeezed_length, const uint8_t *list, size_t list_length);
 
 /* ---- one record read ---- */
 

@@ -1,4 +1,4 @@
--- The answers about drawing lists in the form that C takes (R7.6, R7.7, R8.3).
+-- The answers about drawing lists in the form that C takes (R7.6 to R7.8, R8.3).
 use mathlib.Core.Bool.{cond}
 use mathlib.Core.List.{List, [], _∷_}
 use Prim.Native.Nat.{ℕ}
@@ -18,6 +18,8 @@ use Rattle.lists.specs.declared.check.Checked.{Checked}
 use Rattle.lists.specs.declared.check.Checked.the-variants.{Accepted, Refused as CheckRefused}
 use Rattle.lists.specs.declared.format.Header.{Header}
 use Rattle.lists.specs.declared.write.Written.{Written}
+use Rattle.squeeze.specs.declared.Answer.{Answer}
+use Rattle.squeeze.specs.declared.Answer.the-variants.{Squeezed, Refused as SqueezeRefused}
 use Rattle.greystroke.specs.Taken.{unsignedOf, basisTaken, basisGiven}
 use Rattle.greystroke.specs.Answers.{callPlace, unknownKind}
 use Rattle.greystroke.specs.declared.taken.GivenBasis.{GivenBasis}
@@ -25,6 +27,7 @@ use Rattle.greystroke.specs.declared.taken.Taken.{Taken}
 use Rattle.greystroke.specs.declared.taken.Taken.the-variants.{Known, Unknown}
 use Rattle.greystroke.specs.declared.list.ReadAnswer.{ReadAnswer}
 use Rattle.greystroke.specs.declared.list.CheckAnswer.{CheckAnswer}
+use Rattle.greystroke.specs.declared.squeezing.SqueezeAnswer.{SqueezeAnswer}
 use Rattle.greystroke.specs.declared.writing.WriteAnswer.{WriteAnswer}
 
 -- ---- reading
@@ -62,6 +65,12 @@ abbrev pub checkAnswer : Checked → CheckAnswer
 checkAnswer (Accepted d ceiling) = record { refusal = 0; place = 0; basis = basisGiven (basisOf d); background = d .background; ceiling = ceiling }
 checkAnswer (CheckRefused refusal place) =
     record { refusal = refusal; place = place; basis = basisGiven (basisBy 0 0 0); background = 0; ceiling = 0 }
+
+-- ---- squeezing
+
+abbrev pub squeezeAnswered : Answer → SqueezeAnswer
+squeezeAnswered (Squeezed n) = record { refusal = 0; place = 0; length = n }
+squeezeAnswered (SqueezeRefused refusal place) = record { refusal = refusal; place = place; length = 0 }
 
 -- ---- writing
 

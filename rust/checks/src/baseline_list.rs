@@ -1,7 +1,7 @@
-//! Checking and drawing a whole list as one would first write it in Rust.
+//! Checking, drawing and squeezing a whole list as one would first write it in Rust.
 //!
 //! The list is read twice, record by record: once to find its first refusal and add up its ceiling,
-//! once to draw.
+//! once to draw it or to build the squeezed list, which is then copied if it fits.
 
 use crate::baseline::{clip_refusal, page_refusal, paint, shape_refusal, CodeInk, Ink, LightInk};
 use greystroke::{
@@ -93,6 +93,66 @@ fn draw<I: Ink>(
         rest = &rest[length..];
     }
     Ok(Picture { size, touched })
+}
+
+/// What [`greystroke::squeeze_list`] does.
+pub fn squeeze_list(squeezed: &mut [u8], list: &[u8]) -> Result<usize, ListRefusal> {
+    let Header { version, size, .. } = check_without_page(list)?.header;
+    let start = Settings {
+        clip: Clip::whole(size),
+        level: 255,
+        player: 0,
+    };
+    let (mut written, mut now) = (start, start);
+    let mut built = list[..HEADER_LENGTH].to_vec();
+    let mut rest = &list[HEADER_LENGTH..];
+    while let Ok((record, length)) = decode(rest, version) {
+        match record {
+            Record::End => break,
+            Record::Setting(Setting::Clip(next)) => now.clip = next,
+            Record::Setting(Setting::Level(next)) => now.level = next,
+            Record::Setting(Setting::Player(next)) => now.player = next,
+            Record::Shape(_) => {
+                write_changes(&mut built, &written, &now);
+                written = now;
+                built.extend_from_slice(&rest[..length]);
+            }
+        }
+        rest = &rest[length..];
+    }
+    built.push(0);
+    let Some(room) = squeezed.get_mut(..built.len()) else {
+        return Err(ListRefusal {
+            refusal: Refusal::NoRoom,
+            place: 0,
+        });
+    };
+    room.copy_from_slice(&built);
+    Ok(built.len())
+}
+
+/// What is in force at a shape.
+#[derive(Clone, Copy)]
+struct Settings {
+    clip: Clip,
+    level: u8,
+    player: u8,
+}
+
+fn write_changes(built: &mut Vec<u8>, before: &Settings, now: &Settings) {
+    if now.clip != before.clip {
+        let Clip { x0, y0, x1, y1 } = now.clip;
+        built.push(1);
+        for corner in [x0, y0, x1, y1] {
+            built.extend_from_slice(&corner.to_le_bytes());
+        }
+    }
+    if now.level != before.level {
+        built.extend_from_slice(&[2, now.level]);
+    }
+    if now.player != before.player {
+        built.extend_from_slice(&[7, now.player]);
+    }
 }
 
 fn check_header(list: &[u8], page_length: usize) -> Result<Header, Refusal> {

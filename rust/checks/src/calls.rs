@@ -15,6 +15,7 @@ pub fn answer(line: &str) -> String {
             library::draw_list(list, page, lights).map(|drawn| drawn.touched)
         }),
         "ceilings" => rows::ceilings(call, library::check_without_page),
+        "squeezes" => rows::squeezes(call, library::squeeze_list),
         _ => format!("no answers for {table}"),
     }
 }

@@ -19,4 +19,5 @@ pub mod random;
 pub mod reference_page;
 pub mod reference_writer;
 pub mod rows;
+pub mod spare;
 pub mod strokes;

@@ -81,6 +81,10 @@ pub fn reference_checked(
     }
 }
 
+pub fn squeeze_list(squeezed: &mut [u8], list: &[u8]) -> Result<usize, Refused> {
+    greystroke::squeeze_list(squeezed, list).map_err(with_place)
+}
+
 pub fn draw_list(list: &[u8], page: &mut [u8], lights: &[u16]) -> Result<Drawn, Refused> {
     let outcome = match Lights::new(lights) {
         Ok(lights) => greystroke::draw_list(page, &lights, list),
@@ -114,7 +118,8 @@ pub fn write(writing: &mut Writing, what: &Writable) -> Result<(), Refused> {
     outcome.map_err(without_place)
 }
 
-fn with_place(refused: greystroke::ListRefusal) -> Refused {
+/// The refusal of a call on a whole list.
+pub fn with_place(refused: greystroke::ListRefusal) -> Refused {
     Refused {
         number: refused.refusal.number(),
         place: refused.place,

@@ -136,6 +136,20 @@ pub fn ceilings(call: &str, check: impl Fn(&[u8]) -> Result<Checked, Refused>) -
     }
 }
 
+pub fn squeezes(
+    call: &str,
+    squeeze: impl Fn(&mut [u8], &[u8]) -> Result<usize, Refused>,
+) -> String {
+    let [length, hex] = fields(call);
+    let [length] = numbers(length);
+    let before = vec![0xAA; length];
+    let mut squeezed = before.clone();
+    match squeeze(&mut squeezed, &parse_hex(hex)) {
+        Ok(length) => format!("{length} {}", show_hex(&squeezed)),
+        Err(refusal) => marked(refused_at(&refusal), squeezed != before),
+    }
+}
+
 /// The parts of a call, parted by colons with a blank in front: any other belongs to its word.
 fn fields<const N: usize>(call: &str) -> [&str; N] {
     let parts: Vec<&str> = call.split(" :").map(str::trim).collect();

@@ -1,7 +1,7 @@
 //! What the benchmark measures against keeps the rules: the baseline against the reference.
 
 use checks::drawings::{drawing, triangle_drawing};
-use checks::library::reference_checked;
+use checks::library::{reference_checked, with_place};
 use checks::lights::{fit_lights, named};
 use checks::listings::{damage, list};
 use checks::notation::triangle_of;
@@ -15,11 +15,13 @@ use reference::list::{check, check_without_page, draw_list, Drawn};
 use reference::page::page_length;
 use reference::refusal::Refused;
 use reference::shape::{Clip, Shape};
+use reference::squeeze::squeeze_list;
 
 const TRIANGLES: u32 = 200_000;
 const DRAWS: u32 = 20_000;
 const LISTS: u32 = 4_000;
 const CHECKED: u32 = 40_000;
+const SQUEEZED: u32 = 40_000;
 
 /// Draws by both on the same page, and says how many pixels were touched if nothing is refused.
 fn agreed(call: &ShapeCall) -> Option<u64> {
@@ -87,10 +89,7 @@ fn drawn(list: &[u8], page: &mut [u8], lights: &[u16]) -> Result<Drawn, Refused>
             height: picture.size.height,
             touched: picture.touched,
         }),
-        Err(refused) => Err(Refused {
-            number: refused.refusal.number(),
-            place: refused.place,
-        }),
+        Err(refused) => Err(with_place(refused)),
     }
 }
 
@@ -139,4 +138,26 @@ fn random_and_damaged_lists_are_checked_alike() {
         accepted += u32::from(found.is_ok_and(|checked| checked.ceiling > 0));
     }
     assert!(accepted > CHECKED / 4, "only {accepted} have a ceiling");
+}
+
+/// Into rooms that the squeezed list fits, and into others.
+#[test]
+fn random_and_damaged_lists_are_squeezed_alike() {
+    let mut random = Random::new(55);
+    let (mut shorter, mut no_room) = (0, 0);
+    for number in 0..SQUEEZED {
+        let bytes = any_list(&mut random, number);
+        let room = random.between(0, 2 * bytes.len() as i64) as usize;
+        let mut expected = starting_page(room);
+        let mut found = expected.clone();
+        let answer = squeeze_list(&mut expected, &bytes);
+        let found_answer = baseline_list::squeeze_list(&mut found, &bytes).map_err(with_place);
+        assert_eq!(found_answer, answer, "into {room} bytes, {bytes:02x?}");
+        assert!(found == expected, "into {room} bytes, {bytes:02x?}");
+        shorter += u32::from(answer.is_ok_and(|length| length < bytes.len()));
+        no_room += u32::from(answer.is_err_and(|refused| refused.number == 22));
+    }
+    let least = SQUEEZED / 10;
+    assert!(shorter > least, "only {shorter} become shorter");
+    assert!(no_room > least, "only {no_room} do not fit");
 }

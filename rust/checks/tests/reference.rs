@@ -10,6 +10,7 @@ use reference::exact::{bound, byte_after, exact_blend, touches_at, within};
 use reference::lights::codes;
 use reference::list::{check, check_without_page, draw_list, Accepted};
 use reference::shape::PLAYERS;
+use reference::squeeze::squeeze_list;
 use reference::{column, coverage, page, print, reader};
 
 fn answer(table: &str, call: &str) -> String {
@@ -25,6 +26,7 @@ fn answer(table: &str, call: &str) -> String {
         "ceilings" => answers::ceilings(call, |list| {
             check_without_page(list).map(|accepted| accepted.checked())
         }),
+        "squeezes" => answers::squeezes(call, squeeze_list),
         _ => panic!("no table {table}"),
     }
 }
@@ -40,7 +42,7 @@ fn every_row_of_every_table() {
             count += 1;
         }
     }
-    assert_eq!(count, 641 + 310 + 1005 + 519 + 563 + 706 + 124);
+    assert_eq!(count, 679 + 354 + 1150 + 558 + 615 + 787 + 164 + 127);
 }
 
 #[test]

@@ -138,6 +138,14 @@ pub struct CheckAnswer {
     pub ceiling: u64,
 }
 
+/// How many bytes the squeezed list has.
+#[repr(C)]
+pub struct SqueezeAnswer {
+    pub refusal: u32,
+    pub place: usize,
+    pub length: usize,
+}
+
 /// The page's size and how many touches each player made.
 #[repr(C)]
 pub struct ListAnswer {
@@ -210,6 +218,17 @@ extern "C" {
         lights_length: usize,
     ) -> CheckAnswer;
     pub fn greystroke_check_without_page(list: *const u8, list_length: usize) -> CheckAnswer;
+}
+
+// Safe to call if the squeezed list is a slice that nothing else reads or writes meanwhile, and the
+// list is a slice that nothing writes meanwhile; the two may not overlap.
+extern "C" {
+    pub fn greystroke_squeeze_list(
+        squeezed: *mut u8,
+        squeezed_length: usize,
+        list: *const u8,
+        list_length: usize,
+    ) -> SqueezeAnswer;
 }
 
 // Safe to call if the list is a slice that nothing else reads or writes meanwhile; any place and

@@ -6,8 +6,9 @@
 //! pixel that a shape covers, as a fraction that is not reduced, and [`last_column`] how far a line
 //! goes before it leaves a clip for good. A drawing list holds many shapes as bytes: [`Writer`]
 //! makes one, [`read_record`] reads it record by record, [`check_list`] tries it whole and tells the
-//! ceiling of its touches, [`check_without_page`] does so before there is a page, and [`draw_list`]
-//! draws it and counts what each player's shapes touch.
+//! ceiling of its touches, [`check_without_page`] does so before there is a page, [`squeeze_list`]
+//! leaves out its settings that change nothing, and [`draw_list`] draws it and counts what each
+//! player's shapes touch.
 //!
 //! ```
 //! use greystroke::{coverage, draw_shape, Clip, Fraction, Lights, Line, Refusal, Shape, Size};
@@ -33,6 +34,7 @@ mod picture;
 pub mod raw;
 mod refusal;
 mod shape;
+mod squeeze;
 
 pub use column::last_column;
 pub use coverage::{coverage, Fraction};
@@ -45,3 +47,4 @@ pub use list::{
 pub use picture::{draw_list, Picture, PLAYERS};
 pub use refusal::Refusal;
 pub use shape::{Disc, Line, Ring, Shape, Triangle};
+pub use squeeze::squeeze_list;

@@ -33,7 +33,7 @@ pub enum Refusal {
     /// The page has fewer bytes than pixels.
     PageTooShort = 21,
     /// The list being written has no room for what is to be written, or the place of a record is
-    /// inside the header.
+    /// inside the header; or a squeezed list is longer than the bytes lent for it.
     NoRoom = 22,
     /// A player is above 7.
     Player = 31,
@@ -90,7 +90,9 @@ impl Refusal {
             Refusal::RingWidth => "the width of the ring is 0 or above its radius",
             Refusal::ListTooLong => "the list has more than 65,536 bytes",
             Refusal::PageTooShort => "the page has fewer bytes than pixels",
-            Refusal::NoRoom => "too few bytes are left in the list, which has at most 65,536",
+            Refusal::NoRoom => {
+                "too few bytes are left in the list being written, which has at most 65,536"
+            }
             Refusal::Player => "the player is above 7",
             Refusal::Lights => "the lights are not 256 in number, or not strictly rising",
             Refusal::RadiusTooLarge => {

@@ -1,6 +1,6 @@
 //! A list into a text.
 
-use crate::words::{header_words, record_words};
+use crate::words::{header_words, record_words, refusal_words};
 use greystroke::{check_without_page, read_record, Header, ListRefusal};
 
 const HEADER_LENGTH: usize = 10;
@@ -28,10 +28,7 @@ pub fn dump(list: &[u8]) -> Dumped {
     }
     text += &match checked {
         Ok(checked) => format!("# ceiling {}\n", checked.ceiling),
-        Err(ListRefusal { refusal, place }) => {
-            let (number, reason) = (refusal.number(), refusal.reason());
-            format!("# refused {number} at {place}: {reason}\n")
-        }
+        Err(refused) => format!("# {}\n", refusal_words(refused)),
     };
     Dumped { text, refusal }
 }

@@ -1,7 +1,8 @@
 //! The words of a line, and what they stand for.
 
 use greystroke::{
-    Clip, Disc, Header, Line, Record, Ring, Setting, Shape, Size, Triangle, LATEST_VERSION,
+    Clip, Disc, Header, Line, ListRefusal, Record, Ring, Setting, Shape, Size, Triangle,
+    LATEST_VERSION,
 };
 use std::str::FromStr;
 
@@ -179,6 +180,13 @@ pub fn header_words(header: Header) -> String {
         LATEST_VERSION => page,
         version => format!("{page} version {version}"),
     }
+}
+
+/// What is told of a refused list.
+pub fn refusal_words(refused: ListRefusal) -> String {
+    let ListRefusal { refusal, place } = refused;
+    let (number, reason) = (refusal.number(), refusal.reason());
+    format!("refused {number} at {place}: {reason}")
 }
 
 pub fn record_words(record: Record) -> String {

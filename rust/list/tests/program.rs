@@ -38,6 +38,22 @@ fn a_list_is_made_and_dumped() {
 }
 
 #[test]
+fn a_list_is_squeezed() {
+    let longer = run(
+        &["make"],
+        b"page 4 3 0\nlevel 9\nlevel 255\nexact 1 1 3 2\nplayer 3\nend\n",
+    );
+    let squeezed = run(&["squeeze"], &longer.stdout);
+    assert_eq!(squeezed.status.code(), Some(0));
+    assert_eq!(Ok(&squeezed.stdout), list::make(TEXT).as_ref());
+    assert_eq!(text(&squeezed.stderr), "");
+
+    let again = run(&["squeeze"], &squeezed.stdout);
+    assert_eq!(again.status.code(), Some(0));
+    assert_eq!(again.stdout, squeezed.stdout);
+}
+
+#[test]
 fn a_file_serves_as_standard_input_does() {
     let file = Path::new(env!("CARGO_TARGET_TMPDIR")).join("drawing");
     let name = file.to_str().unwrap();
@@ -45,8 +61,11 @@ fn a_file_serves_as_standard_input_does() {
     let made = run(&["make", name], b"");
     assert_eq!(made.stdout, run(&["make"], TEXT).stdout);
     fs::write(&file, &made.stdout).unwrap();
-    let dumped = run(&["dump", name], b"");
-    assert_eq!(dumped.stdout, run(&["dump"], &made.stdout).stdout);
+    for word in ["dump", "squeeze"] {
+        let found = run(&[word, name], b"");
+        assert_eq!(found.stdout, run(&[word], &made.stdout).stdout);
+        assert!(!found.stdout.is_empty());
+    }
     fs::remove_file(&file).unwrap();
 }
 
@@ -65,13 +84,25 @@ fn a_refused_list_is_told_by_the_status() {
     list.pop();
     let dumped = run(&["dump"], &list);
     assert_eq!(dumped.status.code(), Some(1));
-    let told = "# refused 5 at 19: the list is cut short\n";
-    assert!(text(&dumped.stdout).ends_with(told));
+    let told = "refused 5 at 19: the list is cut short\n";
+    assert!(text(&dumped.stdout).ends_with(&format!("# {told}")));
+
+    let squeezed = run(&["squeeze"], &list);
+    assert_eq!(squeezed.status.code(), Some(1));
+    assert_eq!(text(&squeezed.stdout), "");
+    assert_eq!(text(&squeezed.stderr), told);
 }
 
 #[test]
 fn other_words_are_told_how_to_use_it() {
-    for words in [&[][..], &["paint"], &["make", "a", "b"], &["--help"]] {
+    let others: [&[&str]; 5] = [
+        &[],
+        &["paint"],
+        &["make", "a", "b"],
+        &["squeeze", "a", "b"],
+        &["--help"],
+    ];
+    for words in others {
         let told = run(words, TEXT);
         assert_eq!(told.status.code(), Some(2), "{words:?}");
         assert_eq!(text(&told.stdout), "");
@@ -81,8 +112,10 @@ fn other_words_are_told_how_to_use_it() {
 
 #[test]
 fn a_file_that_is_not_there_is_named() {
-    let told = run(&["dump", "no such list"], b"");
-    assert_eq!(told.status.code(), Some(2));
-    assert_eq!(text(&told.stdout), "");
-    assert!(text(&told.stderr).starts_with("list: no such list: "));
+    for word in ["make", "dump", "squeeze"] {
+        let told = run(&[word, "no such list"], b"");
+        assert_eq!(told.status.code(), Some(2));
+        assert_eq!(text(&told.stdout), "");
+        assert!(text(&told.stderr).starts_with("list: no such list: "));
+    }
 }

@@ -1,9 +1,10 @@
-//! Texts into lists and back: the examples, random lists, damaged lists and wrong lines.
+//! Texts into lists and back: the examples, random lists, damaged lists and wrong lines; and lists
+//! squeezed, told by their texts.
 
 use checks::listings::{damage, lawful_record, list as any_list};
 use checks::random::Random;
 use greystroke::{check_without_page, Refusal};
-use list::{dump, make, LONGEST_LIST};
+use list::{dump, make, squeeze, LONGEST_LIST};
 use reference::format::{encode_header, encode_record, Header};
 use std::fs;
 use std::path::{Path, PathBuf};
@@ -73,11 +74,34 @@ fn places(text: &str) -> Vec<usize> {
     places.map(|(_, place)| place.parse().unwrap()).collect()
 }
 
+/// The lines of a dump that have a shape, without their places.
+fn shapes(text: &str) -> Vec<&str> {
+    let records = text.lines().filter_map(|line| line.split_once("# at "));
+    let is_setting = |record: &str| {
+        let mut settings = ["clip ", "level ", "player "].into_iter();
+        settings.any(|words| record.starts_with(words))
+    };
+    let records = records.map(|(record, _)| record);
+    records.filter(|record| !is_setting(record)).collect()
+}
+
+/// A list squeezed has the same shapes and no more bytes, and is not squeezed further.
+fn assert_squeezed(list: &[u8]) {
+    let squeezed = squeeze(list).expect("the list is accepted");
+    assert!(squeezed.len() <= list.len(), "{list:02x?}");
+    let (text, squeezed_text) = (dump(list).text, dump(&squeezed).text);
+    assert_eq!(shapes(&squeezed_text), shapes(&text));
+    assert_eq!(squeezed_text.lines().last(), text.lines().last());
+    assert_eq!(squeeze(&squeezed), Ok(squeezed));
+}
+
 /// A dump tells the ceiling that the check of the list tells, or the refusal, and stops at its place.
+/// A refused list is not squeezed.
 fn assert_told(list: &[u8]) -> Option<Refusal> {
     let dumped = dump(list);
     let checked = check_without_page(list);
     assert_eq!(dumped.refusal, checked.err(), "{list:02x?}");
+    assert_eq!(squeeze(list).err(), checked.err(), "{list:02x?}");
     let mut lines = dumped.text.lines();
     let last = lines.next_back().unwrap_or_default();
     let refused = match checked {
@@ -88,6 +112,7 @@ fn assert_told(list: &[u8]) -> Option<Refusal> {
             assert!(end.starts_with("end "), "{}", dumped.text);
             assert_eq!(dumped.text.matches("ceiling").count(), 1);
             assert_eq!(make(dumped.text.as_bytes()).as_deref(), Ok(list));
+            assert_squeezed(list);
             return None;
         }
     };
@@ -188,6 +213,47 @@ fn the_ceiling_follows_the_records() {
     }
 }
 
+/// The records of a list, and of the same list squeezed.
+#[test]
+fn settings_that_change_nothing_are_left_out() {
+    let rows = [
+        // the settings that a list starts with, and one that no shape is drawn with
+        (
+            "clip 0 0 20 16\nlevel 9\nlevel 255\nplayer 0\ndisc 9 9 2\n",
+            "disc 9 9 2\n",
+        ),
+        // those of the shape before, also after others
+        (
+            "level 9\ndisc 9 9 2\nlevel 9\ndisc 9 9 3\nlevel 7\nlevel 9\ndisc 9 9 4\n",
+            "level 9\ndisc 9 9 2\ndisc 9 9 3\ndisc 9 9 4\n",
+        ),
+        // those behind the last shape
+        (
+            "bigdisc 9 9 2\nclip 0 0 1 1\nlevel 9\nplayer 3\n",
+            "bigdisc 9 9 2\n",
+        ),
+        ("clip 0 0 1 1\nlevel 9\nplayer 3\n", ""),
+        // clip, level, player is the order
+        (
+            "player 3\nlevel 9\nclip 0 0 1 1\nring 9 9 2 1\n",
+            "clip 0 0 1 1\nlevel 9\nplayer 3\nring 9 9 2 1\n",
+        ),
+        // a setting that is set back stays
+        (
+            "clip 0 0 1 1\nexact 1 1 3 2\nclip 0 0 20 16\nexact 1 1 3 2\n",
+            "clip 0 0 1 1\nexact 1 1 3 2\nclip 0 0 20 16\nexact 1 1 3 2\n",
+        ),
+    ];
+    for (records, squeezed) in rows {
+        let made = |records| make(format!("page 20 16 9\n{records}end\n").as_bytes()).unwrap();
+        assert_eq!(squeeze(&made(records)), Ok(made(squeezed)), "{records}");
+    }
+    for text in [EACH_KIND, EACH_KIND_OF_VERSION_1] {
+        let list = make(text.as_bytes()).unwrap();
+        assert_eq!(squeeze(&list), Ok(list));
+    }
+}
+
 #[test]
 fn accepted_lists_come_back_as_their_own_bytes() {
     let mut random = Random::new(1);
@@ -280,7 +346,7 @@ fn a_list_may_have_65536_bytes_and_no_more() {
     assert_eq!(assert_told(&list), None);
 
     let longer = head + &"level 1\n".repeat(8) + "end\n";
-    let reason = "too few bytes are left in the list, which has at most 65,536";
+    let reason = "too few bytes are left in the list being written, which has at most 65,536";
     assert_eq!(wrong(&longer), format!("line 7288: refused 22: {reason}"));
 
     let too_long = [&list[..], &[0]].concat();

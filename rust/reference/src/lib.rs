@@ -16,6 +16,7 @@ pub mod print;
 pub mod reader;
 pub mod refusal;
 pub mod shape;
+pub mod squeeze;
 pub mod triangle;
 pub mod writer;
 pub mod zone;

@@ -3,16 +3,16 @@
 //! library's time grows with the shape and with the page.
 //!
 //! Lines: `ratio NAME VALUE`, `over_codes NAME VALUE` (the library's time over its own with lights
-//! equal to codes) and `growth NAME SIZE NANOSECONDS`, each kind after a line with `#` that names
-//! the inputs.
+//! equal to codes), `over_check NAME VALUE` (over its own for the check of the same list without a
+//! page) and `growth NAME SIZE NANOSECONDS`, each kind after a line with `#` that names the inputs.
 
 use checks::lights::named;
 use checks::random::Random;
 use checks::{baseline, baseline_list};
 use greystroke::{
-    check_list, check_without_page, draw_list, draw_shape, Checked, Clip, Disc, Header, Lights,
-    Line, ListRefusal, Picture, Record, Refusal, Ring, Setting, Shape, Size, Triangle, Writer,
-    LATEST_VERSION, PLAYERS,
+    check_list, check_without_page, draw_list, draw_shape, squeeze_list, Checked, Clip, Disc,
+    Header, Lights, Line, ListRefusal, Picture, Record, Refusal, Ring, Setting, Shape, Size,
+    Triangle, Writer, LATEST_VERSION, PLAYERS,
 };
 use std::hint::black_box;
 use std::ops::RangeInclusive;
@@ -37,6 +37,7 @@ type Draw = fn(&mut [u8], Size, &Lights, Clip, u8, Shape) -> Result<u64, Refusal
 type DrawList = fn(&mut [u8], &Lights, &[u8]) -> Result<Picture, ListRefusal>;
 type CheckList = fn(&[u8], usize, &Lights) -> Result<Checked, ListRefusal>;
 type CheckWithoutPage = fn(&[u8]) -> Result<Checked, ListRefusal>;
+type SqueezeList = fn(&mut [u8], &[u8]) -> Result<usize, ListRefusal>;
 
 /// The gamma of a screen, as the tables have it.
 fn gamma() -> Lights {
@@ -112,13 +113,13 @@ fn assert_alike<T: PartialEq>(jobs: &[impl Fn(&mut [u8]) -> T]) {
     assert!(page == plain_page, "the pages differ");
 }
 
-/// Times the library, the baseline and, if there is a third job, the library with codes.
+/// Times the library, the baseline and what else there is, and hands back the times.
 fn print_ratio<T: PartialEq>(
     name: &str,
     (count, each): (usize, &str),
     inputs: &str,
     jobs: &[impl Fn(&mut [u8]) -> T],
-) {
+) -> Vec<f64> {
     assert_alike(jobs);
     let times = best_in_turns(&mut page_of(SIDE), jobs);
     let times: Vec<f64> = times.iter().map(|&time| nanoseconds(time, count)).collect();
@@ -128,6 +129,11 @@ fn print_ratio<T: PartialEq>(
         times[0], times[1]
     );
     println!("ratio {name} {:.2}", times[0] / times[1]);
+    times
+}
+
+/// The time of the first job over that of the third, where there is a third.
+fn print_over_codes(name: &str, times: &[f64]) {
     if let Some(codes) = times.get(2) {
         println!("# {name}: the library with codes {codes:.0} ns");
         println!("over_codes {name} {:.2}", times[0] / codes);
@@ -159,7 +165,8 @@ fn print_shape_ratio(
         })
         .collect();
     let inputs = format!("{SHAPES} {inputs}, page {SIDE} by {SIDE}");
-    print_ratio(name, (SHAPES, "shape"), &inputs, &jobs);
+    let times = print_ratio(name, (SHAPES, "shape"), &inputs, &jobs);
+    print_over_codes(name, &times);
 }
 
 /// A line with a longer span of `longer`, any direction, with both ends on the page.
@@ -467,14 +474,30 @@ fn mixed_list(shapes: usize) -> Vec<u8> {
     list
 }
 
-/// Mixed records to the last byte a list may have; single levels fill what is left.
+/// A mixed shape behind the clip that a list starts with and the level and player of all others.
+fn write_spare(random: &mut Random, writer: &mut Writer) {
+    write(
+        writer,
+        Record::Setting(Setting::Clip(Clip::whole(square(SIDE)))),
+    );
+    write(writer, Record::Setting(Setting::Level(9)));
+    write(writer, Record::Setting(Setting::Player(3)));
+    write(writer, Record::Shape(mixed_shape(random)));
+}
+
+/// Mixed records to the last byte a list may have.
 fn full_list() -> Vec<u8> {
+    filled_list(write_mixed)
+}
+
+/// Such records to the last byte a list may have; single levels fill what is left.
+fn filled_list(write_next: impl Fn(&mut Random, &mut Writer, usize)) -> Vec<u8> {
     let mut random = Random::new(12);
     let mut list = vec![0; LONGEST_LIST];
     let mut writer = started(&mut list);
     let mut number = 0;
     while writer.place + 40 < LONGEST_LIST {
-        write_mixed(&mut random, &mut writer, number);
+        write_next(&mut random, &mut writer, number);
         number += 1;
     }
     // A ring has seven bytes and a level two, so that the end record comes last.
@@ -496,7 +519,8 @@ fn print_drawn_list(name: &str, inputs: &str, ways: &[(DrawList, Lights)], list:
             move |page: &mut [u8]| draw(page, lights, black_box(list)).expect("a lawful list")
         })
         .collect();
-    print_ratio(name, (1, "list"), inputs, &jobs);
+    let times = print_ratio(name, (1, "list"), inputs, &jobs);
+    print_over_codes(name, &times);
 }
 
 fn print_list_ratios() {
@@ -528,6 +552,39 @@ fn print_list_ratios() {
     });
     let inputs = format!("{inputs} without a page");
     print_ratio("check_without_page", (1, "list"), &inputs, &jobs);
+}
+
+/// Squeezes the list into so many bytes, and checks it.
+fn print_squeezed_list(name: &str, inputs: &str, list: &[u8], room: usize) {
+    let checked: SqueezeList = |_, list| check_without_page(list).map(|_| list.len());
+    let jobs = [squeeze_list, baseline_list::squeeze_list, checked].map(|squeeze: SqueezeList| {
+        move |page: &mut [u8]| squeeze(&mut page[..room], black_box(list)).expect("a lawful list")
+    });
+    let inputs = format!(
+        "a list of {} bytes, {inputs}, into {room} bytes",
+        list.len()
+    );
+    let times = print_ratio(name, (1, "list"), &inputs, &jobs);
+    println!(
+        "# {name}: the library's check without a page {:.0} ns",
+        times[2]
+    );
+    println!("over_check {name} {:.2}", times[0] / times[2]);
+}
+
+fn print_squeeze_ratios() {
+    let squeezed_length = |list: &[u8]| {
+        let mut squeezed = vec![0; list.len()];
+        squeeze_list(&mut squeezed, list).expect("a lawful list")
+    };
+    let list = full_list();
+    let inputs = "mixed records, squeezed";
+    print_squeezed_list("squeeze_list", inputs, &list, list.len());
+    print_squeezed_list("squeeze_list_fitted", inputs, &list, squeezed_length(&list));
+
+    let list = filled_list(|random, writer, _| write_spare(random, writer));
+    let inputs = "each shape behind a clip, a level and a player that change nothing, squeezed";
+    print_squeezed_list("squeeze_spare", inputs, &list, list.len());
 }
 
 /// One shape, drawn again and again on a square page.
@@ -653,6 +710,7 @@ fn main() {
     print_triangle_ratios();
     print_gamma_ratios();
     print_list_ratios();
+    print_squeeze_ratios();
     print_shape_growth();
     print_page_growth();
 }

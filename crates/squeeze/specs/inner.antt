@@ -1,0 +1,2 @@
+-- How a list is squeezed record by record.
+pub mod Walk
