@@ -11,15 +11,10 @@ use Rattle.lists.specs.declared.format.Header.{Header}
 use Rattle.lists.specs.declared.settings.Settings.{Settings}
 use Rattle.drawing.specs.Claim.{drawingsBy}
 use Rattle.squeeze.specs.Squeeze.{changes, keptFrom, allBytes, listBytes, squeezed}
-use Rattle.squeeze.specs.Claim.{squeezedOf}
+use Rattle.squeeze.specs.Claim.{squeezedOf, stored}
 use Rattle.squeeze.proofs.Sizes.{all-append}
 
--- the settings of each drawing, and the bytes of its shape record
-unfoldable pub stored : List Drawing → List (Settings × List ℕ)
-stored [] = []
-stored (d ∷ ds) = (d .settings, recordBytes (shape (d .shape))) ∷ stored ds
-
--- the bytes of what is kept are made from these alone, b being the settings at the shape before
+-- the bytes of what is kept are made from what is stored alone, b being the settings at the shape before
 bytesFrom : Settings → List (Settings × List ℕ) → List ℕ
 bytesFrom b [] = allBytes (end ∷ [])
 bytesFrom b (g ∷ gs) = allBytes (changes b (g .0)) ++ (g .1 ++ bytesFrom (g .0) gs)

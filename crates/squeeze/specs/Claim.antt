@@ -1,11 +1,14 @@
 -- What a squeezed list keeps (R10.7).
 use mathlib.Core.Bool.{Bool}
 use mathlib.Core.Path.{_≡_}
-use mathlib.Core.List.{List}
+use mathlib.Core.List.{List, [], _∷_}
 use Prim.Native.Nat.{ℕ, _≤_}
 use lib.ListN.{length, take}
-use Rattle.lists.specs.Format.{headerAt}
+use Rattle.shapes.specs.declared.Record.the-variants.{Shape as shape}
+use Rattle.lists.specs.Format.{headerAt, recordBytes}
+use Rattle.lists.specs.Drawing.{Drawing}
 use Rattle.lists.specs.List.{recordsOf, checkedAs, pagelessRecords}
+use Rattle.lists.specs.declared.settings.Settings.{Settings}
 use Rattle.drawing.specs.Claim.{drawingsBy, Claim, listOutcome, listPage}
 use Rattle.drawing.specs.declared.Outcome.{Outcome}
 use Rattle.squeeze.specs.Squeeze.{squeezed}
@@ -30,6 +33,11 @@ pub record Keeps (s t : List ℕ) : Type 0 where
   -- t is no longer, and squeezed again it is the same bytes
   pub no-longer : length t ≤ length s
   pub again : squeezedOf t ≡ t
+
+-- the settings of each drawing and the bytes of its shape record: lists with equal headers that have these alike are squeezed to identical bytes
+unfoldable pub stored : List Drawing → List (Settings × List ℕ)
+stored [] = []
+stored (d ∷ ds) = (d .settings, recordBytes (shape (d .shape))) ∷ stored ds
 
 -- by the answer to squeezing s into an output, which is then m: the bytes of the length that is told keep what s says
 unfoldable pub KeepsBy : List ℕ → Answer → List ℕ → Type 0
