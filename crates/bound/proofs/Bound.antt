@@ -8,7 +8,7 @@ use borrow.Author.Tests.{eqb-true}
 use Rattle.numbers.specs.Fraction.{Frac, _⊕_, Within}
 use Rattle.numbers.proofs.Fraction.{⊕-comm, triangle, within-same}
 use Rattle.bound.specs.Exact.{Touch, after, mix, whole, times, covers}
-use Rattle.bound.specs.inner.Sound.{SoundTouch, AllSound}
+use Rattle.bound.specs.Sound.{SoundTouch, AllSound}
 use Rattle.bound.proofs.Fractions.{mix-den, mix-covers, mix-within, mix-off}
 
 -- all that the bound rests on: blending bytes gives a byte; its place is within half of the mixture of their places; whole coverage

@@ -4,11 +4,12 @@ use mathlib.Core.List.{List, [], _∷_}
 use Prim.Native.Nat.{ℕ, _≤_}
 use Rattle.numbers.specs.Fraction.{Frac, _over_, _⊕_}
 use Rattle.lights.specs.Codes.{codes}
-use Rattle.lights.proofs.Codes.{code-light, blend-codes, widest-codes, span-codes}
-use Rattle.lights.proofs.Blend.{blend-byte}
+use Rattle.lights.proofs.Codes.{code-light, widest-codes, span-codes}
+use Rattle.blending.proofs.EvenSteps.{blend-codes}
+use Rattle.blending.proofs.Blend.{blend-byte}
 use Rattle.bound.specs.Exact.{Touch, after, mix, whole, times, byteAfter, exactAfter, halfGap, marginOf, marginsOf, sinceCover, boundOf}
 use Rattle.bound.specs.Codes.{codeAfter, exactCodeAfter, codeMarginsOf, codeBoundOf}
-use Rattle.bound.specs.inner.Sound.{AllSound}
+use Rattle.bound.specs.Sound.{AllSound}
 
 pub byte-codes : (u : ℕ) (ts : List Touch) → u ≤ 255 → AllSound ts → byteAfter codes u ts ≡ codeAfter u ts
 unfolding byteAfter codeAfter after

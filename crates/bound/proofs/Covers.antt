@@ -2,16 +2,17 @@
 use mathlib.Core.Bool.{Bool, true, false, cond}
 use mathlib.Core.List.{List, [], _∷_, _++_}
 use mathlib.Core.Path.{_≡_, refl, sym, _∙_, ap}
-use Prim.Native.Nat.{ℕ, _+_}
+use Prim.Native.Nat.{ℕ, _+_, _*_}
+use native.Mathlib.Nat.{sub-self}
 use native.Mathlib.Omega.{arith}
 use borrow.Author.Tests.{eqb-true}
 use Rattle.numbers.specs.Fraction.{Frac, _⊕_, _≼_}
 use Rattle.numbers.proofs.Fraction.{⊕-le}
-use Rattle.lights.specs.Lights.{lightSpan}
+use Rattle.lights.specs.Lights.{lightOf, lightSpan}
 use Rattle.lights.specs.inner.Fit.{Fit}
-use Rattle.lights.proofs.Blend.{blend-whole}
-use Rattle.bound.specs.Exact.{Touch, after, whole, times, byteAfter, halfGap, marginOf, marginsOf, covers, covered, sinceCover, boundOf}
-use Rattle.bound.specs.inner.Sound.{SoundTouch}
+use Rattle.blending.proofs.Blend.{blend-whole}
+use Rattle.bound.specs.Exact.{Touch, after, whole, times, mix, byteAfter, exactAfter, halfGap, marginOf, marginsOf, covers, covered, sinceCover, boundOf}
+use Rattle.bound.specs.Sound.{SoundTouch}
 use Rattle.bound.proofs.Since.{since-none, since-cover, since-kept}
 use Rattle.bound.proofs.Bound.{marginStep, boundStep}
 
@@ -84,3 +85,11 @@ pub level-after : (lights : List ℕ) → Fit lights → (u : ℕ) (ts : List To
     → byteAfter lights u (ts ++ t ∷ []) ≡ t .level
 unfolding byteAfter after
 level-after lights fit u ts t s h = byte-cover lights fit u ts t [] s h
+
+-- and the exact blend is the level's light: (e·(d − d) + v·d) over d is v
+pub exact-after : (lights : List ℕ) (e : Frac) (ts : List Touch) (t : Touch) → covers t ≡ true
+    → exactAfter lights e (ts ++ t ∷ []) .num ≡ lightOf lights (t .level) * exactAfter lights e (ts ++ t ∷ []) .den
+unfolding exactAfter after covers mix
+exact-after lights e ts t h =
+    let n = eqb-true (t .exact .num) (t .exact .den) h in
+    rw (after-then (λ (e : Frac) (t : Touch). mix e (lightOf lights (t .level)) (t .exact)) e ts (t ∷ []), n, sub-self) (omega arith)

@@ -8,12 +8,12 @@ use native.Mathlib.Omega.{arith}
 use Rattle.numbers.specs.Fraction.{Frac, _over_, _≼_, Within}
 use Rattle.numbers.proofs.Fraction.{within-wider}
 use Rattle.lights.specs.Lights.{lightOf, widestGap, lightSpan}
-use Rattle.lights.specs.Blend.{blend}
+use Rattle.blending.specs.Blend.{blend}
 use Rattle.lights.specs.inner.Fit.{Fit}
-use Rattle.lights.proofs.Nearest.{light-mono}
-use Rattle.lights.proofs.Blend.{blend-byte, blend-whole, blend-within}
+use Rattle.lights.proofs.Neighbours.{light-mono}
+use Rattle.blending.proofs.Blend.{blend-byte, blend-whole, blend-within}
 use Rattle.bound.specs.Exact.{Touch, mix, whole, byteAfter, exactAfter, halfGap, marginOf, marginsOf, covers, boundOf}
-use Rattle.bound.specs.inner.Sound.{SoundTouch, AllSound}
+use Rattle.bound.specs.Sound.{SoundTouch, AllSound}
 use Rattle.bound.proofs.Fractions.{mix-den, mix-whole}
 use Rattle.bound.proofs.Bound.{Scale, close, exactStep, after-den}
 use Rattle.bound.proofs.Covers.{addMargin, keepBound, bound-kept, bound-le}

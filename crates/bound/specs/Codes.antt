@@ -2,7 +2,7 @@
 use mathlib.Core.List.{List}
 use Prim.Native.Nat.{ℕ}
 use Rattle.numbers.specs.Fraction.{Frac, _over_, _⊕_}
-use Rattle.lights.specs.Codes.{codeBlend}
+use Rattle.blending.specs.CodeBlend.{codeBlend}
 use Rattle.bound.specs.Exact.{Touch, after, mix, whole, times, sinceCover}
 
 -- the byte u, blended by each touch

@@ -5,7 +5,7 @@ use Prim.Native.Nat.{ℕ, _+_, _*_, _-_}
 use lib.Dec.{eqb}
 use Rattle.numbers.specs.Fraction.{Frac, _over_, _⊕_}
 use Rattle.lights.specs.Lights.{lightOf, widestGap, lightSpan}
-use Rattle.lights.specs.Blend.{blend}
+use Rattle.blending.specs.Blend.{blend}
 
 -- a whole number as a fraction
 abbrev pub whole : ℕ → Frac

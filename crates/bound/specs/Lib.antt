@@ -1,4 +1,4 @@
 -- What contracts say of a pixel's byte and its exact blend.
 pub mod Exact
 pub mod Codes
-pub mod inner
+pub mod Sound

@@ -7,7 +7,7 @@ use lib.Dec.{leb}
 use borrow.Author.Tests.{leb-true}
 use Rattle.numbers.specs.inner.Offset.{origin}
 use Rattle.numbers.proofs.Order.{both-true}
-use Rattle.coverage.specs.inner.Circle.{apart}
+use Rattle.chords.specs.inner.Circle.{apart}
 
 -- nearer to c than d, or at least as far on its left or on its right
 pub apart-near : (c d x : ℕ) → c - d ≤ x → x < c + d → apart c x < d

@@ -7,17 +7,19 @@ use native.Mathlib.Nat.{le-trans}
 use native.Mathlib.Omega.{arith}
 use lib.ListN.{length}
 use Rattle.numbers.specs.inner.Offset.{origin, offsetMost}
-use Rattle.shapes.specs.Limits.{radiusMost}
+use Rattle.limits.specs.Limits.{radiusMost}
 use Rattle.page.specs.inner.Paint.{inView, Lawful, Drawn}
 use Rattle.page.specs.declared.View.{View}
 use Rattle.page.proofs.Clip.{Inside, Outside, left-of, right-of, above, below, clip-shrink, clip-zero}
 use Rattle.page.proofs.Drawn.{drawn-none, drawn-ext}
-use Rattle.coverage.specs.Circle.{heightOf}
-use Rattle.coverage.specs.inner.Circle.{apart}
-use Rattle.coverage.proofs.Height.{height-most, height-falls, height-rises}
-use Rattle.circles.specs.inner.Row.{at, betweenOn, Heights, Circles, Reached, Inked, Placed, boxed}
-use Rattle.circles.specs.declared.Ring.{Ring}
-use Rattle.circles.proofs.Chords.{between-far}
+use Rattle.chords.specs.Circle.{heightOf}
+use Rattle.chords.specs.inner.Circle.{apart}
+use Rattle.chords.proofs.Height.{height-most, height-falls, height-rises}
+use Rattle.rings.specs.inner.Heights.{at, Heights, Circles}
+use Rattle.rings.specs.inner.Placed.{betweenOn, Reached, Inked, Placed}
+use Rattle.circles.specs.inner.Row.{boxed}
+use Rattle.rings.specs.declared.Ring.{Ring}
+use Rattle.rings.proofs.Chords.{between-far}
 use Rattle.page.proofs.Clamp.{clamped-low, clamped-high, clamped-rises, before-clamped, from-clamped, between-clamped}
 use Rattle.circles.proofs.Apart.{apart-near, apart-left, apart-right}
 

@@ -1,5 +1,5 @@
 -- Laws of a row that is drawn in stretches.
-use mathlib.Core.Path.{_≡_, refl, sym, ap, ap₂, _∙_, subst}
+use mathlib.Core.Path.{_≡_, refl, sym, ap, ap₂, _∙_}
 use mathlib.Core.Logic.{⊎-elim}
 use mathlib.Core.List.{List}
 use Prim.Native.Nat.{ℕ, _+_, _-_, _≤_, _<_}
@@ -9,36 +9,23 @@ use Rattle.numbers.specs.inner.Offset.{origin}
 use Rattle.numbers.specs.Sum.{sumTo}
 use Rattle.numbers.proofs.Sum.{sum-none, sum-more, sum-le}
 use Rattle.page.specs.Page.{over}
-use Rattle.page.specs.inner.Paint.{dot, touch, clipped, Lawful, Drawn, clamped}
-use Rattle.page.specs.inner.Ink.{inkOf}
+use Rattle.page.specs.inner.Paint.{dot, touch, clipped, Lawful, clamped}
 use Rattle.page.specs.declared.View.{View}
-use Rattle.lights.specs.inner.Palette.{lightsIn}
-use Rattle.lights.proofs.Blend.{blend-whole}
-use Rattle.lights.proofs.LightsIn.{lights-fit}
 use Rattle.page.proofs.Clip.{clip-columns}
-use Rattle.page.proofs.Drawn.{drawn-join, drawn-length, drawn-row}
+use Rattle.page.proofs.Drawn.{drawn-join, drawn-row}
 use Rattle.page.proofs.Over.{upTo, upTo-none, upTo-store, upTo-read, upTo-all}
-use Rattle.coverage.specs.inner.Circle.{apart}
-use Rattle.circles.specs.inner.Row.{between, betweenOn, Inked, Ready, Measured, Band, RingDrawn, leftOf, rightOf}
-use Rattle.circles.specs.declared.Ring.{Ring}
-use Rattle.circles.specs.declared.cover.Widths.{Widths}
+use Rattle.chords.specs.inner.Circle.{apart}
+use Rattle.rings.specs.inner.Heights.{between, Measured}
+use Rattle.rings.specs.inner.Placed.{betweenOn, RingDrawn}
+use Rattle.circles.specs.inner.Row.{Band, leftOf, rightOf}
+use Rattle.rings.specs.declared.Ring.{Ring}
+use Rattle.rings.specs.declared.Widths.{Widths}
 use Rattle.page.proofs.Clamp.{clamped-low, clamped-high, clamped-rises, before-clamped, from-clamped, between-clamped}
 use Rattle.circles.proofs.Apart.{apart-near, apart-left, apart-right}
-
--- a page that was drawn on stands ready as before
-pub ready-after : {w h : ℕ} {ink n : ℕ → ℕ → ℕ} {l m : List ℕ} {t : ℕ} {palette : List ℕ} {view : View} {ring : Ring} {outer inner : List ℕ}
-    → Drawn w h ink n l m t
-    → Ready palette view (length l) ring outer inner
-    → Ready palette view (length m) ring outer inner
-ready-after {palette = palette} {view} {ring} {outer} {inner} d = subst (λ (k : ℕ). Ready palette view k ring outer inner) (sym (drawn-length d))
 
 -- a band without its left edge
 pub band-from : {Y Z : ℕ → ℕ} {view : View} {ring : Ring} {y p q r s : ℕ} → Band Y Z view ring y p q r s → Band Y Z view ring y q q r s
 band-from b = record { row = b .row; order = (omega arith, omega arith, omega arith, omega arith, omega arith); whole = b .whole }
-
--- a whole blend leaves the level
-pub whole-ink : {palette : List ℕ} {ring : Ring} → Inked palette ring → (u : ℕ) → inkOf (lightsIn palette) (ring .level) 512 512 u ≡ ring .level
-whole-ink {palette} {ring} k u = blend-whole (lightsIn palette) (lights-fit palette (k .palette-is)) u (ring .level) 512 (k .level-most) (omega arith)
 
 -- a row whose widths are known
 module _ {Y Z : ℕ → ℕ} {view : View} {size : ℕ} (ring : Ring) {row : Widths} (y : ℕ)

@@ -5,17 +5,18 @@ use native.Mathlib.Omega.{arith}
 use lib.IntN.{pos}
 use Rattle.numbers.specs.inner.Offset.{offsetOf}
 use Rattle.numbers.proofs.Coordinate.{in-range, pixel-in, pixel-offset}
-use Rattle.shapes.specs.Limits.{shapeRefusal}
+use Rattle.limits.specs.Limits.{shapeRefusal}
 use Rattle.shapes.specs.declared.Disc.{Disc}
 use Rattle.shapes.specs.declared.Ring.{Ring}
 use Rattle.shapes.specs.declared.Shape.the-variants.{Disc as disc, Ring as ring}
-use Rattle.shapes.proofs.Limits.{disc-lawful, ring-lawful}
-use Rattle.coverage.specs.Circle.{heightOf, chords}
+use Rattle.limits.proofs.Limits.{disc-lawful, ring-lawful}
+use Rattle.chords.specs.Circle.{heightOf, chords}
 use Rattle.coverage.specs.inner.OnPage.{shapeOn}
-use Rattle.coverage.proofs.Chord.{disc-drawn, ring-drawn}
-use Rattle.circles.specs.inner.Row.{between, betweenOn}
-use Rattle.circles.specs.declared.Ring.{Ring as Circles}
-use Rattle.circles.proofs.Chords.{chords-none}
+use Rattle.coverage.proofs.Discs.{disc-drawn, ring-drawn}
+use Rattle.rings.specs.inner.Heights.{between}
+use Rattle.rings.specs.inner.Placed.{betweenOn}
+use Rattle.rings.specs.declared.Ring.{Ring as Circles}
+use Rattle.rings.proofs.Chords.{chords-none}
 use Rattle.circles.proofs.Box.{heights-of}
 
 -- a ring is what lies between its circles

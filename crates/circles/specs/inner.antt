@@ -1,3 +1,3 @@
--- The rows of discs and rings on a page.
+-- The rows of discs and rings on a page, and the arrays of their heights.
+pub mod Arrays
 pub mod Row
-pub mod Mirrored

@@ -1,10 +1,11 @@
 // Discs and rings on a lent page.
-use coverage::circle::HEIGHTS;
-use coverage::circle::heights;
+use chords::HEIGHTS;
+use chords::heights;
 use numbers::ORIGIN;
 use numbers::less;
 use page::View;
 use page::clamp_offset;
+use rings::Ring;
 use rows::left_at;
 use rows::right_at;
 ghost use mathlib.Core.Path.{_≡_};
@@ -13,31 +14,21 @@ ghost use Prim.Native.Nat.{_+_, _≤_};
 ghost use lib.Dec.{leb};
 ghost use lib.ListN.{length};
 ghost use Rattle.numbers.specs.inner.Offset.{origin, offsetMost};
-ghost use Rattle.shapes.specs.Limits.{shapeRefusal, radiusMost};
+ghost use Rattle.limits.specs.Limits.{shapeRefusal, radiusMost};
 ghost use Rattle.shapes.specs.declared.Shape.the-variants.{Disc as asDisc, Ring as asRing};
-ghost use Rattle.coverage.specs.Circle.{heightOf};
+ghost use Rattle.chords.specs.Circle.{heightOf};
 ghost use Rattle.coverage.specs.Coverage.{drawnD};
-ghost use Rattle.coverage.specs.inner.Circle.{Held};
+ghost use Rattle.chords.specs.inner.Circle.{Held};
 ghost use Rattle.coverage.specs.inner.OnPage.{shapeOn};
 ghost use Rattle.lights.specs.inner.Palette.{lightsIn, Palette};
 ghost use Rattle.page.specs.inner.Ink.{inkOf};
 ghost use Rattle.page.specs.inner.Paint.{Lawful, DrawnIn};
-ghost use Rattle.circles.specs.inner.Row.{at, boxed, smallMost, middleMost, largeMost, Zeros, Inked, Placed, Ready, RingDrawn};
+ghost use Rattle.rings.specs.inner.Heights.{at};
+ghost use Rattle.circles.specs.inner.Row.{boxed};
+ghost use Rattle.circles.specs.inner.Arrays.{smallMost, middleMost, largeMost, Zeros};
+ghost use Rattle.rings.specs.inner.Placed.{Inked, Placed, Ready, RingDrawn};
 
-mod cover; // cover.rt: coverage by the distances from the centre
-mod mirror; // mirror.rt: rows of which the clip has both sides
-mod pairs; // pairs.rt: pixels on both sides, blended distance by distance
 mod rows; // rows.rt: rows drawn in stretches
-
-// The offsets of the centre, the radii of the two circles, the level, and the scale of the blends over 512. A disc has a hole of radius 0.
-pub(crate) struct Ring {
-    pub cx: u64,
-    pub cy: u64,
-    pub radius: u64,
-    pub hole: u64,
-    pub level: u8,
-    pub m: u64,
-}
 
 // Circles up to these radii hold their heights in shorter arrays.
 const SMALL_MOST: u64 = 32;
@@ -94,7 +85,7 @@ fn draw_held(
 {
     if encloses(view.x0, view.x1, ring.cx, ring.radius) {
         if encloses(view.y0, view.y1, ring.cy, ring.radius) {
-            return mirror::draw_enclosed(page, palette, view, ring, outer, inner);
+            return mirrored::draw_enclosed(page, palette, view, ring, outer, inner);
         }
     }
     rows::draw_rows(page, palette, view, ring, outer, inner)
@@ -220,7 +211,7 @@ pub fn draw_disc(page: &mut [u8], palette: &[u16], view: View, disc: shapes::Dis
         radius: disc.radius as u64,
         hole: 0,
         level,
-        m: lights::scale_of(palette, 512),
+        m: blending::scale_of(palette, 512),
     };
     if ring.radius <= MIDDLE_MOST {
         return draw_lesser(page, palette, view, ring);
@@ -240,7 +231,7 @@ pub fn draw_ring(page: &mut [u8], palette: &[u16], view: View, ring: shapes::Rin
         radius: ring.radius as u64,
         hole: (ring.radius - ring.width) as u64,
         level,
-        m: lights::scale_of(palette, 512),
+        m: blending::scale_of(palette, 512),
     };
     if between.radius <= MIDDLE_MOST {
         return draw_lesser(page, palette, view, between);

@@ -1,27 +1,29 @@
 // The rows of a ring within a clip, each drawn in stretches: edges are blended pixel by pixel, what is whole is filled, a hole is left alone.
-use super::Ring;
-use super::cover::Widths;
-use super::cover::covered_between;
-use super::cover::measure;
 use super::encloses;
-use super::mirror::draw_sides;
-use coverage::circle::apart_of;
+use chords::apart_of;
+use mirrored::draw_sides;
 use numbers::ORIGIN;
 use numbers::less;
 use page::View;
 use page::clamp_offset;
+use rings::Ring;
+use rings::Widths;
+use rings::covered_between;
+use rings::measure;
 ghost use mathlib.Core.Path.{_≡_};
 ghost use Prim.Native.Nat.{ℕ, _+_, _≤_, _<_};
 ghost use lib.ListN.{length};
 ghost use Rattle.numbers.specs.inner.Offset.{origin, offsetMost};
-ghost use Rattle.shapes.specs.Limits.{radiusMost};
+ghost use Rattle.limits.specs.Limits.{radiusMost};
 ghost use Rattle.numbers.specs.Sum.{sumTo};
 ghost use Rattle.lights.specs.inner.Palette.{lightsIn};
 ghost use Rattle.page.specs.inner.Ink.{inkOf};
 ghost use Rattle.page.specs.Page.{over};
 ghost use Rattle.page.specs.inner.Paint.{dot, touch};
-ghost use Rattle.coverage.specs.inner.Circle.{apart};
-ghost use Rattle.circles.specs.inner.Row.{at, between, Circles, leftOf, rightOf, Inked, Ready, Measured, Band, RingDrawn};
+ghost use Rattle.chords.specs.inner.Circle.{apart};
+ghost use Rattle.rings.specs.inner.Heights.{at, between, Circles, Measured};
+ghost use Rattle.circles.specs.inner.Row.{leftOf, rightOf, Band};
+ghost use Rattle.rings.specs.inner.Placed.{Inked, Ready, RingDrawn};
 
 // The first column of the clip that is nearer than d to the centre, and the first past those.
 pub(crate) fn left_at(view: View, ring: Ring, d: u64) -> usize

@@ -1,14 +1,6 @@
--- Laws of the coverage rules.
-pub mod Slant
-pub mod Bounds
-pub mod Closed
-pub mod Column
-pub mod Touched
-pub mod Framing
+-- Laws of the coverage of a pixel by a shape.
 pub mod Pixel
-pub mod Band
-pub mod Height
-pub mod Chord
+pub mod Discs
 pub mod Query
 pub mod Soundness
 pub mod Outside

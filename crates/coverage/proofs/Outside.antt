@@ -17,21 +17,21 @@ use Rattle.shapes.specs.declared.Disc.{Disc}
 use Rattle.shapes.specs.declared.Ring.{Ring}
 use Rattle.shapes.specs.declared.Triangle.{Triangle}
 use Rattle.shapes.specs.declared.Shape.the-variants.{Line as line, Disc as disc, Ring as ring, Triangle as triangle}
-use Rattle.shapes.proofs.Limits.{LawfulLine}
-use Rattle.shapes.proofs.Span.{some-span, span-le}
+use Rattle.limits.proofs.Limits.{LawfulLine}
+use Rattle.limits.proofs.Span.{some-span, span-le}
 use Rattle.sides.specs.Triangle.{first, second, third}
 use Rattle.sides.proofs.TwoSides.{outside-box}
-use Rattle.coverage.specs.Line.{exactRow, rowOf, restOf}
-use Rattle.coverage.specs.Frame.{framed, falls, mirrored, columnOf, straightRow, frameRow}
-use Rattle.coverage.specs.Circle.{heightOf, folded, chord, chords, discCover, ringCover}
+use Rattle.bands.specs.Line.{exactRow, rowOf, restOf}
+use Rattle.bands.specs.Frame.{framed, falls, mirrored, columnOf, straightRow, frameRow}
+use Rattle.chords.specs.Circle.{heightOf, folded, chord, chords, discCover, ringCover}
 use Rattle.coverage.specs.Coverage.{inColumns, lineCover, lineRules, rulesOf, exactN}
-use Rattle.coverage.specs.inner.Rows.{rowsOf, atRow}
-use Rattle.coverage.specs.declared.line.Rows.{Rows}
-use Rattle.coverage.proofs.Closed.{row-from, row-below, row-above}
-use Rattle.coverage.proofs.Column.{part-is}
+use Rattle.bands.specs.inner.Rows.{rowsOf, atRow}
+use Rattle.bands.specs.declared.Rows.{Rows}
+use Rattle.bands.proofs.Closed.{row-from, row-below, row-above}
+use Rattle.bands.proofs.Column.{part-is}
 use Rattle.coverage.proofs.Pixel.{out-left, out-right}
-use Rattle.coverage.proofs.Height.{height-most}
-use Rattle.coverage.proofs.Chord.{folded-diff}
+use Rattle.chords.proofs.Height.{height-most}
+use Rattle.chords.proofs.Chord.{folded-diff}
 
 -- pixel (x, y) is outside the box of so many columns from x0 on and so many rows from y0 on
 abbrev pub OffBox : ℤ → ℤ → ℕ → ℕ → ℕ → ℕ → Type 0

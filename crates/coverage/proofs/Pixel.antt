@@ -10,16 +10,16 @@ use Rattle.numbers.proofs.Order.{cond-le}
 use Rattle.numbers.proofs.Integer.{Diff, above, below, diff-sub, diff-pos, diff-minus, diff-shift, diff-unique}
 use Rattle.numbers.proofs.Coordinate.{InRange}
 use Rattle.shapes.specs.declared.Line.{Line}
-use Rattle.coverage.specs.Line.{rowOf, restOf}
-use Rattle.coverage.specs.inner.Rows.{ruleOf, wholeOf, rowsOf, atRow}
+use Rattle.bands.specs.Line.{rowOf, restOf}
+use Rattle.bands.specs.inner.Rows.{ruleOf, wholeOf, rowsOf, atRow}
 use Rattle.shapes.specs.Span.{longer, shorter}
-use Rattle.coverage.specs.Frame.{columnOf, frameRow}
-use Rattle.coverage.specs.inner.Frame.{rowOrigin, rowBy, rowAt, Framed}
+use Rattle.bands.specs.Frame.{columnOf, frameRow}
+use Rattle.bands.specs.inner.Frame.{rowOrigin, rowBy, rowAt, Framed}
 use Rattle.coverage.specs.Coverage.{inColumns, lineCover, lineRules, rulesOf, drawnN, drawnD}
 use Rattle.shapes.specs.declared.Shape.the-variants.{Line as line}
-use Rattle.coverage.specs.declared.line.Frame.{Frame}
-use Rattle.coverage.proofs.Column.{part-is}
-use Rattle.coverage.proofs.Framing.{column-diff, row-rising, row-falling}
+use Rattle.bands.specs.declared.Frame.{Frame}
+use Rattle.bands.proofs.Column.{part-is}
+use Rattle.bands.proofs.Framing.{column-diff, row-rising, row-falling}
 
 -- ---- columns
 in-columns : (l : ℕ) (rule : ℕ → ℤ) {z : ℤ} {a b : ℕ} → Diff z a b → b ≤ a → a < b + l → inColumns l rule z ≡ rule (a - b)

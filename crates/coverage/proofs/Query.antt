@@ -11,11 +11,11 @@ use mir.Val.{SFits, toZ, ofZ}
 use mir.Facts.{toZ-ofZ}
 use Rattle.numbers.specs.inner.Offset.{offsetMost}
 use Rattle.numbers.specs.Coordinate.{inRange}
-use Rattle.shapes.specs.Limits.{first, outside, offRange, refusalsOf, radiusMost, refusalWithin, shapeRefusal}
+use Rattle.limits.specs.Limits.{first, outside, offRange, refusalsOf, radiusMost, refusalWithin, shapeRefusal}
 use Rattle.shapes.specs.inner.Offsets.{pointOf}
 use Rattle.shapes.specs.declared.Point.{Point}
 use Rattle.shapes.specs.declared.Shape.{Shape}
-use Rattle.shapes.proofs.Limits.{outside-offset, point-kept}
+use Rattle.limits.proofs.Limits.{outside-offset, point-kept}
 use Rattle.coverage.specs.Coverage.{queryRefusal, ratioOf, queried}
 use Rattle.coverage.specs.declared.Ratio.{Ratio}
 use Rattle.coverage.specs.declared.Answer.the-variants.{Covered, Refused}

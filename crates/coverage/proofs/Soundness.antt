@@ -8,23 +8,23 @@ use native.Mathlib.Omega.{arith}
 use lib.Dec.{ltb}
 use lib.IntN.{ℤ, pos, negsuc, natAbs}
 use Rattle.numbers.specs.Fraction.{_over_, Within}
-use Rattle.numbers.specs.inner.Sound.{Sound}
+use Rattle.numbers.specs.Sound.{Sound}
 use Rattle.numbers.proofs.Fraction.{within-same}
-use Rattle.shapes.specs.Limits.{shapeRefusal}
+use Rattle.limits.specs.Limits.{shapeRefusal}
 use Rattle.shapes.specs.declared.Line.{Line}
 use Rattle.shapes.specs.declared.Shape.{Shape}
 use Rattle.shapes.specs.declared.Shape.the-variants.{Line as line, Disc as disc, Ring as ring, Triangle as triangle}
-use Rattle.shapes.proofs.Limits.{LawfulLine, line-lawful}
-use Rattle.coverage.specs.Line.{exactRow, exactWhole, approxRow, approxWhole}
+use Rattle.limits.proofs.Limits.{LawfulLine, line-lawful}
+use Rattle.bands.specs.Line.{exactRow, exactWhole, approxRow, approxWhole}
 use Rattle.shapes.specs.Span.{longer, shorter}
-use Rattle.coverage.specs.Frame.{columnOf, frameRow}
-use Rattle.coverage.specs.Circle.{discCover, ringCover}
-use Rattle.coverage.specs.Coverage.{inColumns, lineCover, Rule, Rules, alike, exactRule, chordRule, triangleRule, lineRules, rulesOf, exactN, exactD}
-use Rattle.coverage.proofs.Closed.{whole-some}
-use Rattle.coverage.proofs.Column.{part-lt, same-touched, near}
-use Rattle.shapes.proofs.Span.{some-span, span-le}
+use Rattle.bands.specs.Frame.{columnOf, frameRow}
+use Rattle.chords.specs.Circle.{discCover, ringCover}
+use Rattle.coverage.specs.Coverage.{inColumns, lineCover, Rule, Rules, alike, exactRule, chordRule, triangleRule, lineRules, rulesOf, exactN, exactD, drawnN, drawnD}
+use Rattle.bands.proofs.Closed.{whole-some}
+use Rattle.bands.proofs.Column.{part-lt, same-touched, near}
+use Rattle.limits.proofs.Span.{some-span, span-le}
 use Rattle.sides.specs.Triangle.{first, second, third}
-use Rattle.coverage.proofs.Chord.{disc-le, ring-le}
+use Rattle.chords.proofs.Chord.{disc-le, ring-le}
 use Rattle.sides.proofs.Round.{cover-le, cover-pos}
 
 -- a relation that holds of 0 and 0, and in every column
@@ -118,3 +118,12 @@ never-whole n x y z = go (n .exact)
     go : (t : Bool) → lineRules t n .exact .part x y < lineRules t n .exact .whole
     go true = line-exact-lt n (line-lawful n z) x y
     go false = line-exact-lt n (line-lawful n z) x y
+
+-- nor does the coverage that it is drawn with
+pub drawn-never-whole : (n : Line) (x y : ℤ) → shapeRefusal (line n) ≡ 0 → drawnN (line n) x y < drawnD (line n)
+unfolding rulesOf lineRules
+drawn-never-whole n x y z = go (n .exact)
+  where
+    go : (t : Bool) → lineRules t n .drawn .part x y < lineRules t n .drawn .whole
+    go true = line-exact-lt n (line-lawful n z) x y
+    go false = line-approx-lt n (line-lawful n z) x y

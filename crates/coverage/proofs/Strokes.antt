@@ -6,12 +6,12 @@ use lib.Dec.{T, leb, ltb, lit<, lit≤}
 use lib.IntN.{ℤ, pos, negsuc}
 use Rattle.shapes.specs.declared.Shape.the-variants.{Line as line, Disc as disc}
 use Rattle.edges.specs.Edge.{P, slant}
-use Rattle.coverage.specs.Line.{leftHeight, rightHeight, F, levelRow, exactRow, exactWhole, rowOf, restOf, threeRows, excess, flatRows, crossedRows, approxRow, approxWhole}
+use Rattle.bands.specs.Line.{leftHeight, rightHeight, F, levelRow, exactRow, exactWhole, rowOf, restOf, threeRows, excess, flatRows, crossedRows, approxRow, approxWhole}
 use Rattle.shapes.specs.Span.{spanX, spanY, longer, shorter, steep}
-use Rattle.coverage.specs.Frame.{exchanged, rising, framed, falls, mirrored, columnOf, straightRow, frameRow}
-use Rattle.coverage.specs.Circle.{heightOf, folded, chord, chords, discCover}
+use Rattle.bands.specs.Frame.{exchanged, rising, framed, falls, mirrored, columnOf, straightRow, frameRow}
+use Rattle.chords.specs.Circle.{heightOf, folded, chord, chords, discCover}
 use Rattle.coverage.specs.Coverage.{inColumns, lineCover, lineRules, rulesOf, drawnN, drawnD}
-use Rattle.coverage.proofs.Height.{height-is, height-beyond}
+use Rattle.chords.proofs.Height.{height-is, height-beyond}
 
 -- a line from (0, 0) to (x1, y1), exact or not, has n over d at (x, y)
 abbrev Line : Bool → ℤ → ℤ → ℤ → ℤ → ℕ → ℕ → Type 0

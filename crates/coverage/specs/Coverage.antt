@@ -8,11 +8,11 @@ use Rattle.numbers.specs.Fraction.{Frac, _over_}
 use Rattle.shapes.specs.declared.Line.{Line}
 use Rattle.shapes.specs.declared.Shape.{Shape}
 use Rattle.shapes.specs.declared.Shape.the-variants.{Line as line, Disc as disc, Ring as ring, Triangle as triangle}
-use Rattle.shapes.specs.Limits.{first, outside, offRange, refusalsOf, radiusMost}
-use Rattle.coverage.specs.Line.{exactRow, exactWhole, approxRow, approxWhole}
+use Rattle.limits.specs.Limits.{first, outside, offRange, refusalsOf, radiusMost}
+use Rattle.bands.specs.Line.{exactRow, exactWhole, approxRow, approxWhole}
 use Rattle.shapes.specs.Span.{longer, shorter}
-use Rattle.coverage.specs.Frame.{columnOf, frameRow}
-use Rattle.coverage.specs.Circle.{discCover, ringCover}
+use Rattle.bands.specs.Frame.{columnOf, frameRow}
+use Rattle.chords.specs.Circle.{discCover, ringCover}
 use Rattle.sides.specs.Triangle.{triangleCover, triangleWhole}
 use Rattle.shapes.specs.declared.Triangle.{Triangle}
 use Rattle.coverage.specs.declared.Ratio.{Ratio}

@@ -1,7 +1,3 @@
--- The coverage rules of lines, circles and triangles.
-pub mod Line
-pub mod Frame
-pub mod Band
-pub mod Circle
+-- The coverage of a pixel by a shape.
 pub mod Coverage
 pub mod inner

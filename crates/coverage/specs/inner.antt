@@ -1,5 +1,2 @@
--- What the functions within say of lines and circles; no entry point cites it.
-pub mod Rows
-pub mod Frame
-pub mod Circle
+-- A shape on a page; no entry point cites it.
 pub mod OnPage

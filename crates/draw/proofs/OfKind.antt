@@ -5,7 +5,7 @@ use Prim.Native.Nat.{ℕ, _≤_, _<_}
 use native.Mathlib.Omega.{arith}
 use borrow.Author.Tests.{ne-eqb}
 use lib.ListN.{length}
-use Rattle.shapes.specs.Limits.{shapeRefusal}
+use Rattle.limits.specs.Limits.{shapeRefusal}
 use Rattle.shapes.specs.declared.Clip.{Clip}
 use Rattle.shapes.specs.declared.Shape.{Shape}
 use Rattle.coverage.specs.Coverage.{drawnD}
@@ -16,9 +16,9 @@ use Rattle.page.specs.inner.Ink.{inkOf}
 use Rattle.page.specs.inner.Paint.{Lawful, DrawnIn}
 use Rattle.draw.specs.Draw.{drawRefusal, shapeOutcome, shapePage}
 use Rattle.draw.specs.declared.Outcome.the-variants.{Touched, Refused}
-use Rattle.draw.specs.inner.View.{viewOf}
+use Rattle.touches.specs.inner.View.{viewOf}
 use Rattle.draw.proofs.Refusals.{draw-lawful}
-use Rattle.draw.proofs.Touches.{page-touched, count-touched}
+use Rattle.touches.proofs.Touches.{page-touched, count-touched}
 
 module _ (w h : ℕ) (lights : List ℕ) (c : Clip) (v : ℕ) (s : Shape) (l : List ℕ) {r : ℕ} (found : r ≡ drawRefusal w h (length l) lights c s) where
   pub refused-kept : 0 < r → (Refused r ≡ shapeOutcome w h (length l) lights c s) × (l ≡ shapePage w h lights c v s l)

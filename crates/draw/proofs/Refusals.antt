@@ -6,8 +6,8 @@ use Prim.Native.Nat.{ℕ, _*_, _≤_}
 use native.Mathlib.Omega.{arith}
 use lib.Dec.{ltb}
 use borrow.Author.Tests.{ltb-false}
-use Rattle.shapes.specs.Limits.{sizeRefusal, clipRefusal, shapeRefusal}
-use Rattle.shapes.proofs.Limits.{clear, tried-clear, tried-last, size-lawful, clip-lawful}
+use Rattle.limits.specs.Limits.{sizeRefusal, clipRefusal, shapeRefusal}
+use Rattle.limits.proofs.Limits.{clear, tried-clear, tried-last, size-lawful, clip-lawful}
 use Rattle.shapes.specs.declared.Clip.{Clip}
 use Rattle.shapes.specs.declared.Shape.{Shape}
 use Rattle.lights.specs.Lights.{fit}
@@ -15,7 +15,7 @@ use Rattle.lights.specs.inner.Fit.{Fit}
 use Rattle.lights.proofs.Rising.{fit-passed}
 use Rattle.page.specs.inner.Paint.{Lawful}
 use Rattle.draw.specs.Draw.{drawRefusal}
-use Rattle.draw.specs.inner.View.{viewOf}
+use Rattle.touches.specs.inner.View.{viewOf}
 
 -- the refusals of the parts, in order
 pub draw-refusals : (w h size : ℕ) (lights : List ℕ) (c : Clip) (s : Shape)

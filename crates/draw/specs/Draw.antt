@@ -5,10 +5,10 @@ use Prim.Native.Nat.{ℕ, _*_}
 use lib.Dec.{ltb, eqb}
 use lib.ListN.{length}
 use Rattle.lights.specs.Lights.{fit}
-use Rattle.shapes.specs.Limits.{first, tried, sizeRefusal, clipRefusal, shapeRefusal}
+use Rattle.limits.specs.Limits.{first, tried, sizeRefusal, clipRefusal, shapeRefusal}
 use Rattle.shapes.specs.declared.Clip.{Clip}
 use Rattle.shapes.specs.declared.Shape.{Shape}
-use Rattle.draw.specs.Touch.{pageAfter, touchCount}
+use Rattle.touches.specs.Touch.{pageAfter, touchCount}
 use Rattle.draw.specs.declared.Outcome.{Outcome}
 use Rattle.draw.specs.declared.Outcome.the-variants.{Touched, Refused}
 

@@ -1,5 +1,2 @@
--- One shape on a lent page, and the last column of a line.
-pub mod Touch
+-- One shape on a lent page.
 pub mod Draw
-pub mod Column
-pub mod inner

@@ -1,9 +1,8 @@
-// One shape on a lent page, and the last column of a line.
-use coverage::line::frame_of;
+// One shape on a lent page.
+use bands::frame_of;
 use lights::fit::Kind;
 use lights::fit::kind_of;
 use lights::palette::PALETTE;
-use lines::columns::columns_of;
 use page::View;
 use shapes::Clip;
 use shapes::Disc;
@@ -15,16 +14,15 @@ ghost use mathlib.Core.Path.{_≡_};
 ghost use mathlib.Core.List.{List};
 ghost use Prim.Native.Nat.{ℕ};
 ghost use lib.ListN.{length};
-ghost use Rattle.shapes.specs.Limits.{shapeRefusal};
+ghost use Rattle.limits.specs.Limits.{shapeRefusal};
 ghost use Rattle.coverage.specs.Coverage.{drawnD};
 ghost use Rattle.lights.specs.inner.Fit.{Fit, IsKind};
 ghost use Rattle.lights.specs.inner.Palette.{lightsIn, Palette};
 ghost use Rattle.page.specs.inner.Ink.{inkOf};
 ghost use Rattle.page.specs.inner.Paint.{Lawful, DrawnIn};
 ghost use Rattle.draw.specs.Draw.{drawRefusal, shapeOutcome, shapePage};
-ghost use Rattle.draw.specs.Column.{columnRefusal, columnReach};
 ghost use Rattle.coverage.specs.inner.OnPage.{shapeOn};
-ghost use Rattle.draw.specs.inner.View.{viewOf};
+ghost use Rattle.touches.specs.inner.View.{viewOf};
 
 // How many pixels a shape touched, or the number of the refusal.
 pub enum Outcome {
@@ -32,18 +30,11 @@ pub enum Outcome {
     Refused(u8),
 }
 
-// The last column of a line in which it touches a pixel, or that there is none; or the number of the refusal.
-pub enum Reach {
-    Last(u64),
-    Nothing,
-    Refused(u8),
-}
-
 // The first refusal of a shape on a page of size bytes, or 0; kind is that of the lights, and own is the shape's refusal.
 fn draw_refusal(w: u16, h: u16, size: usize, kind: Kind, clip: Clip, own: u8) -> u8
     ensures { λ r. ⌜ ((lights : List ℕ) (shape : Shape) → IsKind lights kind → own ≡ shapeRefusal shape → r ≡ drawRefusal w h size lights clip shape) ⌝ }
 {
-    let page_refusal = shapes::size_refusal(w, h);
+    let page_refusal = limits::size_refusal(w, h);
     if 0 < page_refusal {
         return page_refusal;
     }
@@ -53,7 +44,7 @@ fn draw_refusal(w: u16, h: u16, size: usize, kind: Kind, clip: Clip, own: u8) ->
     if !kind.fit {
         return 32;
     }
-    let clip_refusal = shapes::clip_refusal(w, h, clip);
+    let clip_refusal = limits::clip_refusal(w, h, clip);
     if 0 < clip_refusal {
         return clip_refusal;
     }
@@ -112,7 +103,7 @@ pub fn draw_line(
     ensures { λ r. ⌜ now (page .exit) ≡ shapePage w h (now (lights .entry)) clip level (Shape.Line line) (now (page .entry)) ⌝ }
 {
     let lights_kind = kind_of(lights);
-    let own = shapes::line_refusal(line);
+    let own = limits::line_refusal(line);
     let refusal = draw_refusal(w, h, page.len(), lights_kind, clip, own);
     if 0 < refusal {
         return Outcome::Refused(refusal);
@@ -137,7 +128,7 @@ pub fn draw_disc(
     ensures { λ r. ⌜ now (page .exit) ≡ shapePage w h (now (lights .entry)) clip level (Shape.Disc disc) (now (page .entry)) ⌝ }
 {
     let lights_kind = kind_of(lights);
-    let own = shapes::disc_refusal(disc, shapes::RADIUS_MOST);
+    let own = limits::disc_refusal(disc, limits::RADIUS_MOST);
     let refusal = draw_refusal(w, h, page.len(), lights_kind, clip, own);
     if 0 < refusal {
         return Outcome::Refused(refusal);
@@ -162,7 +153,7 @@ pub fn draw_ring(
     ensures { λ r. ⌜ now (page .exit) ≡ shapePage w h (now (lights .entry)) clip level (Shape.Ring ring) (now (page .entry)) ⌝ }
 {
     let lights_kind = kind_of(lights);
-    let own = shapes::ring_refusal(ring, shapes::RADIUS_MOST);
+    let own = limits::ring_refusal(ring, limits::RADIUS_MOST);
     let refusal = draw_refusal(w, h, page.len(), lights_kind, clip, own);
     if 0 < refusal {
         return Outcome::Refused(refusal);
@@ -187,7 +178,7 @@ pub fn draw_triangle(
     ensures { λ r. ⌜ now (page .exit) ≡ shapePage w h (now (lights .entry)) clip level (Shape.Triangle triangle) (now (page .entry)) ⌝ }
 {
     let lights_kind = kind_of(lights);
-    let own = shapes::triangle_refusal(triangle);
+    let own = limits::triangle_refusal(triangle);
     let refusal = draw_refusal(w, h, page.len(), lights_kind, clip, own);
     if 0 < refusal {
         return Outcome::Refused(refusal);
@@ -218,37 +209,4 @@ pub fn draw_shape(
         Shape::Ring(ring) => draw_ring(page, w, h, lights, clip, level, ring),
         Shape::Triangle(triangle) => draw_triangle(page, w, h, lights, clip, level, triangle),
     }
-}
-
-// The first refusal of a line whose last column is asked for, or 0; own is the line's.
-fn column_refusal(w: u16, h: u16, clip: Clip, own: u8) -> u8
-    ensures { λ r. ⌜ ((line : Line) → own ≡ shapeRefusal (Shape.Line line) → r ≡ columnRefusal w h clip line) ⌝ }
-{
-    let page_refusal = shapes::size_refusal(w, h);
-    if 0 < page_refusal {
-        return page_refusal;
-    }
-    let off_page = shapes::clip_refusal(w, h, clip);
-    if 0 < off_page {
-        return off_page;
-    }
-    own
-}
-
-// The last column of a line, counted from its first end, in which it touches a pixel inside a clip on a page of w by h. No page and no lights
-// are lent.
-pub fn last_column(w: u16, h: u16, clip: Clip, line: Line) -> Reach
-    ensures { λ r. ⌜ r ≡ columnReach w h clip line ⌝ }
-{
-    let own = shapes::line_refusal(line);
-    let refusal = column_refusal(w, h, clip, own);
-    if 0 < refusal {
-        return Reach::Refused(refusal);
-    }
-    let f = frame_of(line);
-    let span = columns_of(view_of(w, h, clip), line, f);
-    if span.end <= span.from {
-        return Reach::Nothing;
-    }
-    Reach::Last((span.end as u64) + (numbers::ORIGIN - 1) - f.x)
 }

@@ -18,10 +18,10 @@ use Rattle.page.proofs.Paint.{row-end, row-of, column-of}
 use Rattle.lights.specs.Lights.{lightOf}
 use Rattle.lights.specs.inner.Fit.{Fit}
 use Rattle.bound.specs.Exact.{Touch, whole, byteAfter}
-use Rattle.bound.specs.inner.Sound.{AllSound}
+use Rattle.bound.specs.Sound.{AllSound}
 use Rattle.bound.proofs.Lights.{close-to-exact, exact-den, bound-den}
-use Rattle.draw.specs.Touch.{touched}
-use Rattle.lists.specs.Drawing.{Drawing}
+use Rattle.touches.specs.Touch.{touched}
+use Rattle.settings.specs.Drawing.{Drawing}
 use Rattle.drawing.specs.Touches.{touchOf, touchesAt}
 use Rattle.drawing.specs.Page.{drawnPage}
 use Rattle.drawing.specs.inner.Walk.{touchedPage, AllLawful}

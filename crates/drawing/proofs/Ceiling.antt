@@ -7,21 +7,21 @@ use native.Mathlib.Omega.{arith}
 use lib.ListN.{length}
 use Rattle.numbers.specs.Sum.{total}
 use Rattle.numbers.proofs.Sum.{total-le}
-use Rattle.shapes.specs.Limits.{shapeRefusal, recordRefusal}
-use Rattle.shapes.proofs.Limits.{record-shape}
+use Rattle.limits.specs.Limits.{shapeRefusal, recordRefusal}
+use Rattle.limits.proofs.Limits.{record-shape}
 use Rattle.shapes.specs.declared.Basis.{Basis}
 use Rattle.shapes.specs.declared.Record.{Record}
 use Rattle.shapes.specs.declared.Record.the-variants.{End as end, Setting as setting, Shape as shape}
-use Rattle.lists.specs.Format.{headerAt, basisOf, recordAt}
+use Rattle.format.specs.Format.{headerAt, basisOf, recordAt}
 use Rattle.lists.specs.List.{Records, accepted, refused, pageTests, recordsOf, pageRecords}
-use Rattle.lists.specs.Settings.{start, inForce}
-use Rattle.lists.specs.Drawing.{Drawing, drawingOf, drawingsFrom, drawings}
-use Rattle.lists.specs.Ceiling.{drawingCeiling, ceiling}
-use Rattle.lists.specs.declared.format.Header.{Header}
-use Rattle.lists.specs.declared.settings.Settings.{Settings}
+use Rattle.settings.specs.Settings.{start, inForce}
+use Rattle.settings.specs.Drawing.{Drawing, drawingOf, drawingsFrom, drawings}
+use Rattle.settings.specs.Ceiling.{drawingCeiling, ceiling}
+use Rattle.format.specs.declared.Header.{Header}
+use Rattle.settings.specs.declared.Settings.{Settings}
 use Rattle.lists.proofs.Accepted.{Holds, last, more, list-holds}
-use Rattle.lists.proofs.Refusals.{readable}
-use Rattle.draw.proofs.Ceiling.{touches-ceiling}
+use Rattle.records.proofs.Refusals.{readable}
+use Rattle.touches.proofs.Ceiling.{touches-ceiling}
 use Rattle.drawing.specs.Counts.{drawingCount, shapesCount}
 use Rattle.drawing.specs.Claim.{drawingsBy, Claim}
 use Rattle.drawing.specs.Ceiling.{TouchesWithin}

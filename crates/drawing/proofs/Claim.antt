@@ -6,14 +6,14 @@ use native.Mathlib.Nat.{mul-le-mul}
 use native.Mathlib.Omega.{arith}
 use lib.ListN.{length, getD, replicate, take, drop, length-take}
 use Rattle.numbers.specs.Sum.{total}
-use Rattle.shapes.proofs.Limits.{basis-size}
+use Rattle.limits.proofs.Limits.{basis-size}
 use Rattle.lights.specs.inner.Fit.{Fit}
-use Rattle.lists.specs.Format.{headerAt, basisOf}
+use Rattle.format.specs.Format.{headerAt, basisOf}
 use Rattle.lists.specs.List.{Records, accepted, refused, pageRecords, checkedAs, checkedOf}
-use Rattle.lists.specs.Drawing.{Drawing, drawings}
-use Rattle.lists.specs.Settings.{start}
+use Rattle.settings.specs.Drawing.{Drawing, drawings}
+use Rattle.settings.specs.Settings.{start}
 use Rattle.lists.specs.inner.Walk.{listDrawings}
-use Rattle.lists.specs.declared.format.Header.{Header}
+use Rattle.format.specs.declared.Header.{Header}
 use Rattle.lists.specs.declared.check.Checked.the-variants.{Accepted, Refused}
 use Rattle.lists.proofs.InForce.{start-clip}
 use Rattle.lists.proofs.Walkable.{found, room, lit, list-walkable, drawings-are}

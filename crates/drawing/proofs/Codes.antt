@@ -8,18 +8,17 @@ use lib.Dec.{ltb}
 use lib.ListN.{length, getD}
 use Rattle.numbers.specs.Fraction.{Frac}
 use Rattle.lights.specs.Codes.{codes}
-use Rattle.lights.proofs.Blend.{blend-byte}
+use Rattle.blending.proofs.Blend.{blend-byte}
 use Rattle.lights.proofs.Codes.{code-light, codes-fit}
 use Rattle.page.proofs.Over.{over-ext}
 use Rattle.bound.specs.Exact.{Touch, whole, after, byteAfter, exactAfter}
-use Rattle.bound.specs.inner.Sound.{AllSound}
+use Rattle.bound.specs.Sound.{AllSound}
 use Rattle.bound.proofs.Codes.{byte-codes, exact-codes, bound-codes}
-use Rattle.lists.specs.Format.{headerAt, basisOf}
-use Rattle.lists.specs.List.{Records, accepted, refused, headerRefusal, recordsOf, pageRecords, checkedAs}
-use Rattle.lists.specs.Drawing.{Drawing, drawings}
-use Rattle.lists.specs.declared.format.Header.{Header}
+use Rattle.format.specs.Format.{headerAt, basisOf}
+use Rattle.lists.specs.List.{Records, accepted, refused, headerRefusal, recordsOf, pageRecords, checkedAs, AllBytes}
+use Rattle.settings.specs.Drawing.{Drawing, drawings}
+use Rattle.format.specs.declared.Header.{Header}
 use Rattle.lists.proofs.Walkable.{room}
-use Rattle.lists.proofs.WriteBack.{AllBytes}
 use Rattle.drawing.specs.Touches.{touchesAt}
 use Rattle.drawing.specs.Page.{drawnPage}
 use Rattle.drawing.specs.Claim.{pageBy, ByteBounded, Bounded, ClaimBy, Claim}

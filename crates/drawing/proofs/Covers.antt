@@ -9,7 +9,7 @@ use lib.IntN.{pos}
 use lib.ListN.{length, getD}
 use Rattle.numbers.specs.Fraction.{Within}
 use Rattle.numbers.proofs.Order.{both-true}
-use Rattle.shapes.specs.Limits.{shapeRefusal}
+use Rattle.limits.specs.Limits.{shapeRefusal}
 use Rattle.coverage.specs.Coverage.{exactN, exactD}
 use Rattle.coverage.proofs.Soundness.{sound}
 use Rattle.lights.specs.Lights.{lightOf}
@@ -17,8 +17,8 @@ use Rattle.lights.specs.inner.Fit.{Fit}
 use Rattle.bound.specs.Exact.{whole, byteAfter, exactAfter, marginsOf, covers, covered, boundOf}
 use Rattle.bound.proofs.Covers.{bound-uncovered, bound-cover, byte-cover}
 use Rattle.bound.proofs.Lights.{margins-den, within-margins}
-use Rattle.draw.specs.Touch.{touched}
-use Rattle.lists.specs.Drawing.{Drawing}
+use Rattle.touches.specs.Touch.{touched}
+use Rattle.settings.specs.Drawing.{Drawing}
 use Rattle.drawing.specs.Touches.{touchOf, touchesAt}
 use Rattle.drawing.specs.Page.{drawnPage}
 use Rattle.drawing.specs.Claim.{ByteBounded}

@@ -7,17 +7,17 @@ use native.Mathlib.Omega.{arith}
 use lib.ListN.{drop}
 use Rattle.shapes.specs.declared.Basis.{Basis}
 use Rattle.shapes.specs.declared.Record.{Record}
-use Rattle.lists.specs.Format.{headerSize, kindSize, offKind, kindOf, decoded, headerAt, basisOf, kindAt, sizeAt, recordAt}
-use Rattle.lists.specs.List.{accepted, pageRecords}
-use Rattle.lists.specs.Drawing.{drawings, drawingsFrom}
-use Rattle.lists.specs.Settings.{start, inForce}
+use Rattle.format.specs.Format.{headerSize, kindSize, offKind, kindOf, decoded, headerAt, basisOf, kindAt, sizeAt, recordAt}
+use Rattle.lists.specs.List.{accepted, pageRecords, AllBytes}
+use Rattle.settings.specs.Drawing.{drawings, drawingsFrom}
+use Rattle.settings.specs.Settings.{start, inForce}
 use Rattle.lists.specs.inner.Walk.{playersIn}
-use Rattle.lists.specs.declared.settings.Settings.{Settings}
+use Rattle.settings.specs.declared.Settings.{Settings}
 use Rattle.lists.proofs.Accepted.{Holds, last, more, list-holds}
-use Rattle.lists.proofs.Bytes.{known-kind, each-kind, kind-found}
+use Rattle.format.proofs.Bytes.{known-kind, each-kind, kind-found}
 use Rattle.lists.proofs.InForce.{start-player, player-kept}
-use Rattle.lists.proofs.Refusals.{readable}
-use Rattle.lists.proofs.WriteBack.{AllBytes, drop-bytes}
+use Rattle.records.proofs.Refusals.{readable}
+use Rattle.lists.proofs.WriteBack.{drop-bytes}
 use Rattle.drawing.specs.inner.Walk.{AllLawful}
 use Rattle.drawing.proofs.Records.{lawful-then}
 

@@ -10,3 +10,4 @@ pub mod Claim
 pub mod Zone
 pub mod Margin
 pub mod Codes
+pub mod Accepted

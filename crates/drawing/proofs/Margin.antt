@@ -10,19 +10,18 @@ use lib.Dec.{eqb, ltb}
 use lib.IntN.{pos}
 use lib.ListN.{length}
 use Rattle.numbers.specs.Fraction.{Frac, _⊕_}
-use Rattle.numbers.specs.inner.Sound.{Sound}
+use Rattle.numbers.specs.Sound.{Sound}
 use Rattle.numbers.proofs.Order.{lt-or-le, eq-or-ne}
-use Rattle.shapes.specs.Limits.{shapeRefusal}
+use Rattle.limits.specs.Limits.{shapeRefusal}
 use Rattle.coverage.proofs.Soundness.{sound}
 use Rattle.bound.specs.Exact.{Touch, after, whole, marginOf, covers, boundOf}
 use Rattle.bound.proofs.Covers.{keepBound, bound-kept}
-use Rattle.draw.specs.Touch.{keeps, touched}
-use Rattle.draw.proofs.Touches.{same-test}
+use Rattle.touches.specs.Touch.{keeps, touched}
+use Rattle.touches.proofs.Touches.{same-test}
 use Rattle.shapes.specs.declared.Record.{Record}
-use Rattle.lists.specs.Format.{headerAt, basisOf}
-use Rattle.lists.specs.List.{Records, accepted, pageRecords}
-use Rattle.lists.specs.Drawing.{Drawing, drawings}
-use Rattle.lists.proofs.WriteBack.{AllBytes}
+use Rattle.format.specs.Format.{headerAt, basisOf}
+use Rattle.lists.specs.List.{Records, accepted, pageRecords, AllBytes}
+use Rattle.settings.specs.Drawing.{Drawing, drawings}
 use Rattle.drawing.specs.Touches.{touchOf, touchesAt}
 use Rattle.drawing.specs.Claim.{ClaimBy, Claim}
 use Rattle.drawing.specs.Zone.{Zone, zoneSum, OnPage, zoneMargin, ZoneWithin}

@@ -13,9 +13,9 @@ use Rattle.numbers.proofs.Order.{below, cond-le}
 use Rattle.numbers.proofs.Sum.{sum-one, sum-total}
 use Rattle.shapes.specs.declared.Record.{Record}
 use Rattle.shapes.specs.declared.Record.the-variants.{End as end, Setting as setting, Shape as shape}
-use Rattle.lists.specs.Drawing.{Drawing, drawingOf}
+use Rattle.settings.specs.Drawing.{Drawing, drawingOf}
 use Rattle.lists.specs.inner.Walk.{playersIn}
-use Rattle.lists.specs.declared.settings.Settings.{Settings}
+use Rattle.settings.specs.declared.Settings.{Settings}
 use Rattle.drawing.specs.Counts.{drawingCount, shapesCount, pixelsCount, ownOf, byPlayer, playerCounts, onFirst, Counted}
 use Rattle.drawing.specs.inner.Walk.{AllLawful}
 use Rattle.drawing.proofs.Shapes.{counts-same}

@@ -9,29 +9,29 @@ use lib.ListN.{length, getD, set, replicate, take, drop, length-set}
 use Rattle.numbers.specs.Sum.{total}
 use Rattle.numbers.proofs.Order.{cond-le}
 use Rattle.numbers.proofs.Sum.{total-++}
-use Rattle.shapes.specs.Limits.{shapeRefusal, recordRefusal}
-use Rattle.shapes.proofs.Limits.{basis-size, record-shape}
+use Rattle.limits.specs.Limits.{shapeRefusal, recordRefusal}
+use Rattle.limits.proofs.Limits.{basis-size, record-shape}
 use Rattle.shapes.specs.declared.Shape.{Shape}
 use Rattle.shapes.specs.declared.Setting.the-variants.{Clip as clip, Level as level, Player as player}
 use Rattle.shapes.specs.declared.Basis.{Basis}
 use Rattle.shapes.specs.declared.Record.{Record}
 use Rattle.shapes.specs.declared.Record.the-variants.{End as end, Setting as setting, Shape as shape}
 use Rattle.coverage.specs.Coverage.{drawnD}
-use Rattle.coverage.proofs.Height.{zeros}
+use Rattle.chords.proofs.Height.{zeros}
 use Rattle.page.specs.inner.Ink.{inkOf}
 use Rattle.page.specs.inner.Paint.{Lawful, DrawnIn}
 use Rattle.page.proofs.Drawn.{drawn-count}
-use Rattle.lists.specs.Format.{headerSize, kindSize, recordAt}
+use Rattle.format.specs.Format.{headerSize, kindSize, recordAt}
 use Rattle.coverage.specs.inner.OnPage.{shapeOn}
-use Rattle.draw.specs.inner.View.{viewOf}
+use Rattle.touches.specs.inner.View.{viewOf}
 use Rattle.draw.proofs.Refusals.{view-lawful}
-use Rattle.draw.proofs.Touches.{page-touched, count-touched}
-use Rattle.lists.specs.Drawing.{Drawing, drawingOf, drawingsFrom}
-use Rattle.lists.specs.Settings.{start, inForce}
+use Rattle.touches.proofs.Touches.{page-touched, count-touched}
+use Rattle.settings.specs.Drawing.{Drawing, drawingOf, drawingsFrom}
+use Rattle.settings.specs.Settings.{start, inForce}
 use Rattle.drawing.specs.Counts.{drawingCount, shapesCount, ownOf, playerCounts}
 use Rattle.drawing.specs.inner.Walk.{shapesPage, Drawable, AllLawful, ShapesDrawn}
 use Rattle.lists.specs.inner.Walk.{recordsIn, listRecords, listDrawings, playersIn}
-use Rattle.lists.specs.declared.settings.Settings.{Settings}
+use Rattle.settings.specs.declared.Settings.{Settings}
 use Rattle.drawing.proofs.Shapes.{page-then, length-shapes}
 use Rattle.drawing.proofs.Players.{players-most, players-are, raised, own-++, own-record}
 use Rattle.lists.proofs.Left.{Left, left-start, left-basis, left-inside, left-end, left-lawful, Step, left-next}

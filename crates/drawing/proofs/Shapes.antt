@@ -7,12 +7,12 @@ use native.Mathlib.Omega.{arith}
 use lib.ListN.{length, getD}
 use Rattle.numbers.specs.Sum.{total}
 use Rattle.numbers.proofs.Sum.{sum-ext, sum-add, sum-zero}
-use Rattle.lights.specs.Blend.{blend}
+use Rattle.blending.specs.Blend.{blend}
 use Rattle.page.specs.Page.{over}
 use Rattle.page.proofs.Over.{over-ext, over-over, over-same, length-over}
 use Rattle.bound.specs.Exact.{Touch, after, byteAfter}
-use Rattle.draw.specs.Touch.{touched, shapeByte, pageAfter, touchCount}
-use Rattle.lists.specs.Drawing.{Drawing}
+use Rattle.touches.specs.Touch.{touched, shapeByte, pageAfter, touchCount}
+use Rattle.settings.specs.Drawing.{Drawing}
 use Rattle.drawing.specs.Touches.{touchOf, touchesAt}
 use Rattle.drawing.specs.Counts.{pixelsCount, shapesCount}
 use Rattle.drawing.specs.inner.Walk.{shapesPage, touchedPage}

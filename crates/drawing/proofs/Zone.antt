@@ -7,10 +7,10 @@ use native.Mathlib.Omega.{arith}
 use Rattle.numbers.specs.Fraction.{Frac, Within}
 use Rattle.numbers.proofs.Fraction.{within-same, within-sum}
 use Rattle.bound.specs.Exact.{whole}
-use Rattle.lists.specs.Format.{basisOf}
+use Rattle.format.specs.Format.{basisOf}
 use Rattle.lists.specs.List.{accepted}
-use Rattle.lists.specs.Drawing.{drawings}
-use Rattle.lists.specs.declared.format.Header.{Header}
+use Rattle.settings.specs.Drawing.{drawings}
+use Rattle.format.specs.declared.Header.{Header}
 use Rattle.shapes.specs.declared.Record.{Record}
 use Rattle.drawing.specs.Claim.{Bounded, ClaimBy}
 use Rattle.drawing.specs.Zone.{Zone, zoneSum, OnPage, zoneMargin, ZoneWithin}

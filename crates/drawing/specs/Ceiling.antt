@@ -1,7 +1,7 @@
 -- No accepted list has more touches than its ceiling (R10.6).
 use Prim.Native.Nat.{ℕ, _≤_}
 use Rattle.lists.specs.List.{Records}
-use Rattle.lists.specs.declared.format.Header.{Header}
+use Rattle.format.specs.declared.Header.{Header}
 use Rattle.drawing.specs.Counts.{pixelsCount}
 use Rattle.drawing.specs.Claim.{drawingsBy}
 

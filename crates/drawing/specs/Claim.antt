@@ -5,10 +5,10 @@ use lib.ListN.{length, getD}
 use mathlib.Core.Path.{_≡_}
 use Rattle.numbers.specs.Fraction.{Within}
 use Rattle.lights.specs.Lights.{lightOf}
-use Rattle.lists.specs.Format.{headerAt, basisOf}
+use Rattle.format.specs.Format.{headerAt, basisOf}
 use Rattle.lists.specs.List.{Records, accepted, refused, pageRecords}
-use Rattle.lists.specs.Drawing.{Drawing, drawings}
-use Rattle.lists.specs.declared.format.Header.{Header}
+use Rattle.settings.specs.Drawing.{Drawing, drawings}
+use Rattle.format.specs.declared.Header.{Header}
 use Rattle.bound.specs.Exact.{Touch, whole, exactAfter, boundOf}
 use Rattle.drawing.specs.Touches.{touchesAt}
 use Rattle.drawing.specs.Page.{drawnPage}

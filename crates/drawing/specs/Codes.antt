@@ -7,10 +7,10 @@ use lib.Dec.{ltb}
 use lib.ListN.{length, getD}
 use Rattle.numbers.specs.Fraction.{Within}
 use Rattle.page.specs.Page.{over}
-use Rattle.lists.specs.Format.{headerAt, basisOf}
+use Rattle.format.specs.Format.{headerAt, basisOf}
 use Rattle.lists.specs.List.{Records, accepted, refused, recordsOf}
-use Rattle.lists.specs.Drawing.{drawings}
-use Rattle.lists.specs.declared.format.Header.{Header}
+use Rattle.settings.specs.Drawing.{drawings}
+use Rattle.format.specs.declared.Header.{Header}
 use Rattle.bound.specs.Exact.{Touch, whole}
 use Rattle.bound.specs.Codes.{codeAfter, exactCodeAfter, codeBoundOf}
 use Rattle.drawing.specs.Touches.{touchesAt}

@@ -6,8 +6,8 @@ use mathlib.Core.Path.{_≡_}
 use lib.Dec.{eqb}
 use lib.ListN.{length}
 use Rattle.numbers.specs.Sum.{sumTo, total}
-use Rattle.draw.specs.Touch.{touchCount}
-use Rattle.lists.specs.Drawing.{Drawing}
+use Rattle.touches.specs.Touch.{touchCount}
+use Rattle.settings.specs.Drawing.{Drawing}
 use Rattle.drawing.specs.Touches.{touchesAt}
 
 -- the pixels that a drawing touches

@@ -5,8 +5,8 @@ use mathlib.Core.Path.{_≡_}
 use Prim.Native.Nat.{ℕ}
 use lib.IntN.{pos}
 use Rattle.coverage.specs.Coverage.{exactN, exactD}
-use Rattle.draw.specs.Touch.{keeps}
-use Rattle.lists.specs.Drawing.{Drawing}
+use Rattle.touches.specs.Touch.{keeps}
+use Rattle.settings.specs.Drawing.{Drawing}
 
 -- pixel (x, y) is inside the clip of the drawing, and n = d of its exact coverage
 pub record Covering (d : Drawing) (x y : ℕ) : Type 0 where

@@ -7,8 +7,8 @@ use lib.IntN.{pos}
 use Rattle.numbers.specs.Fraction.{Frac, _⊕_}
 use Rattle.coverage.specs.Coverage.{drawnN, drawnD}
 use Rattle.bound.specs.Exact.{whole, marginOf}
-use Rattle.draw.specs.Touch.{keeps}
-use Rattle.lists.specs.Drawing.{Drawing}
+use Rattle.touches.specs.Touch.{keeps}
+use Rattle.settings.specs.Drawing.{Drawing}
 use Rattle.drawing.specs.Touches.{touchOf}
 use Rattle.drawing.specs.Zone.{Zone, zoneSum}
 

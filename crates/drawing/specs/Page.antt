@@ -5,7 +5,7 @@ use Prim.Native.Nat.{ℕ, _*_, _%_, _/_}
 use lib.Dec.{ltb}
 use Rattle.page.specs.Page.{over}
 use Rattle.bound.specs.Exact.{byteAfter}
-use Rattle.lists.specs.Drawing.{Drawing}
+use Rattle.settings.specs.Drawing.{Drawing}
 use Rattle.drawing.specs.Touches.{touchesAt}
 
 -- byte y·w + x is what the touches of (x, y) leave of the background b; each byte past w·h is kept

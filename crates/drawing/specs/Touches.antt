@@ -6,8 +6,8 @@ use lib.IntN.{pos}
 use Rattle.numbers.specs.Fraction.{_over_}
 use Rattle.coverage.specs.Coverage.{rulesOf}
 use Rattle.bound.specs.Exact.{Touch}
-use Rattle.draw.specs.Touch.{touched}
-use Rattle.lists.specs.Drawing.{Drawing}
+use Rattle.touches.specs.Touch.{touched}
+use Rattle.settings.specs.Drawing.{Drawing}
 
 -- a drawing at pixel (x, y)
 abbrev pub touchOf : Drawing → ℕ → ℕ → Touch

@@ -5,8 +5,8 @@ use lib.ListN.{getD}
 use Rattle.numbers.specs.Fraction.{Frac, _⊕_, Within}
 use Rattle.lights.specs.Lights.{lightOf}
 use Rattle.bound.specs.Exact.{whole, exactAfter, boundOf}
-use Rattle.lists.specs.Drawing.{Drawing}
-use Rattle.lists.specs.declared.format.Header.{Header}
+use Rattle.settings.specs.Drawing.{Drawing}
+use Rattle.format.specs.declared.Header.{Header}
 use Rattle.drawing.specs.Touches.{touchesAt}
 
 -- some pixels, each by its x and y

@@ -1,9 +1,9 @@
 // A whole drawing list on a lent page.
+use format::HEADER_SIZE;
 use lights::fit::Kind;
 use lights::fit::kind_of;
 use lights::palette::PALETTE;
 use lists::check::Checked;
-use lists::format::HEADER_SIZE;
 use shapes::Basis;
 use shapes::Clip;
 use shapes::PLAYERS;
@@ -11,13 +11,13 @@ use shapes::Record;
 ghost use mathlib.Core.Path.{_≡_};
 ghost use Prim.Native.Nat.{ℕ, _*_, _≤_};
 ghost use lib.ListN.{length};
-ghost use Rattle.shapes.specs.Limits.{recordRefusal};
+ghost use Rattle.limits.specs.Limits.{recordRefusal};
 ghost use Rattle.lights.specs.inner.Fit.{Fit, IsKind};
 ghost use Rattle.lights.specs.inner.Palette.{lightsIn, Palette};
 ghost use Rattle.page.specs.inner.Paint.{Lawful};
 ghost use Rattle.lists.specs.inner.Walk.{listDrawings};
-ghost use Rattle.draw.specs.inner.View.{viewOf};
-ghost use Rattle.lists.specs.Drawing.{drawingOf};
+ghost use Rattle.touches.specs.inner.View.{viewOf};
+ghost use Rattle.settings.specs.Drawing.{drawingOf};
 ghost use Rattle.drawing.specs.inner.Walk.{settingsOf, ShapesDrawn, ListDrawn, ListPainted, Drawable};
 ghost use Rattle.drawing.specs.Claim.{Claim};
 
@@ -65,7 +65,7 @@ fn draw_records(page: &mut [u8], palette: &[u16], list: &[u8], basis: Basis) -> 
     requires { ⌜ Palette (now palette) × Drawable (now list) basis (length (now page)) ⌝ }
     ensures { λ ts. ⌜ ListDrawn (lightsIn (now (palette .entry))) basis (listDrawings basis (now (list .entry))) (now (page .entry)) (now (page .exit)) ts ⌝ }
 {
-    let mut settings = lists::settings::first_settings(basis);
+    let mut settings = settings::first_settings(basis);
     let mut touched = [0u64; PLAYERS];
     let mut place = HEADER_SIZE;
     loop {
@@ -73,13 +73,13 @@ fn draw_records(page: &mut [u8], palette: &[u16], list: &[u8], basis: Basis) -> 
         if kind == 0 {
             return touched;
         }
-        let rec = lists::format::decode(&list[place..]);
+        let rec = decoding::decode(&list[place..]);
         let clip = settings.clip;
         let player = settings.player as usize;
         let own = draw_record(page, palette, basis, clip, settings.level, rec);
         touched[player] += own;
-        settings = lists::settings::settings_after(settings, rec);
-        place = lists::read::next_place(list, place);
+        settings = settings::settings_after(settings, rec);
+        place = records::read::next_place(list, place);
     }
 }
 
@@ -132,7 +132,7 @@ pub fn draw_list(page: &mut [u8], lights: &[u16], list: &[u8]) -> Outcome
         },
         Checked::Accepted { header, ceiling: _ } => {
             let n = (header.w as usize) * (header.h as usize);
-            let basis = lists::format::basis_of(header);
+            let basis = format::basis_of(header);
             let touched = paint_in(&mut page[..n], lights, kind, list, basis, header.background);
             Outcome {
                 answer: Answer::Drawn {

@@ -4,15 +4,15 @@ use mathlib.Core.Path.{_≡_, refl, sym, _∙_, ap, subst}
 use mathlib.Core.List.{List}
 use Prim.Native.Nat.{ℕ}
 use Rattle.numbers.specs.Sum.{total}
-use Rattle.lists.specs.Format.{headerAt}
+use Rattle.format.specs.Format.{headerAt}
 use Rattle.lists.specs.List.{Records, accepted, refused, recordsOf, checkedAs}
-use Rattle.lists.specs.Ceiling.{ceiling}
-use Rattle.lists.specs.declared.format.Header.{Header}
+use Rattle.settings.specs.Ceiling.{ceiling}
+use Rattle.format.specs.declared.Header.{Header}
 use Rattle.drawing.specs.Claim.{drawingsBy}
 use Rattle.drawing.specs.Ceiling.{TouchesWithin}
 use Rattle.drawing.proofs.Ceiling.{touches-within}
-use Rattle.greystroke.specs.Lists.{checkAnswer}
-use Rattle.greystroke.specs.declared.list.CheckAnswer.{CheckAnswer}
+use Rattle.answers.specs.List.{checkAnswer}
+use Rattle.answers.specs.declared.list.CheckAnswer.{CheckAnswer}
 
 told : (d : Header) (x : Records) → checkAnswer (checkedAs d x) .ceiling ≡ ceiling (drawingsBy d x)
 unfolding drawingsBy total

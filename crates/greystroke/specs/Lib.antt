@@ -1,5 +1,3 @@
--- How the C interface takes numbers, and its answers.
-pub mod Taken
-pub mod Answers
-pub mod Lists
-pub mod Whole
+-- What the calls of C do by their numbers.
+pub mod Shape
+pub mod Writing

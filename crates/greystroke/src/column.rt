@@ -1,61 +1,29 @@
 // The last column of a line in which it touches a pixel.
-use crate::taken::GivenClip;
-use crate::taken::GivenShape;
-use crate::taken::clip_of;
-use crate::taken::line_of;
-use crate::taken::unsigned;
+use answers::shape::ColumnAnswer;
+use answers::shape::column_answer;
+use arguments::GivenClip;
+use arguments::GivenShape;
+use arguments::clip_of;
+use arguments::line_of;
+use arguments::unsigned;
 ghost use mathlib.Core.Path.{_≡_};
-ghost use Rattle.greystroke.specs.Answers.{reached, columnAsked};
-
-// Where refusal is 0, found is 1 and the column is the last one, or both are 0; else both are 0.
-#[repr(C)]
-pub struct ColumnAnswer {
-    pub refusal: u32,
-    pub place: usize,
-    pub found: u32,
-    pub column: u64,
-}
-
-// The library's answer in the form that C takes.
-fn column_answer(reach: draw::Reach) -> ColumnAnswer
-    ensures { λ r. ⌜ r ≡ reached reach ⌝ }
-{
-    match reach {
-        draw::Reach::Last(column) => ColumnAnswer {
-            refusal: 0,
-            place: 0,
-            found: 1,
-            column,
-        },
-        draw::Reach::Nothing => ColumnAnswer {
-            refusal: 0,
-            place: 0,
-            found: 0,
-            column: 0,
-        },
-        draw::Reach::Refused(refusal) => ColumnAnswer {
-            refusal: refusal as u32,
-            place: 0,
-            found: 0,
-            column: 0,
-        },
-    }
-}
+ghost use Rattle.answers.specs.Shape.{reached};
+ghost use Rattle.greystroke.specs.Shape.{columnAsked};
 
 // Only a line has columns.
-fn ask(w: u32, h: u32, clip: GivenClip, shape: GivenShape) -> draw::Reach
+fn ask(w: u32, h: u32, clip: GivenClip, shape: GivenShape) -> last_column::Reach
     ensures { λ r. ⌜ r ≡ columnAsked w h clip shape ⌝ }
 {
     let kind = shape.kind;
     let numbers = shape.numbers;
     match kind {
-        3 | 4 => draw::last_column(
+        3 | 4 => last_column::last_column(
             unsigned(w),
             unsigned(h),
             clip_of(clip),
             line_of(kind == 3, numbers),
         ),
-        _ => draw::Reach::Refused(4),
+        _ => last_column::Reach::Refused(4),
     }
 }
 

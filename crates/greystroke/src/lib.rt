@@ -1,5 +1,4 @@
 // The C interface: what the tally program links. Each call is thin over the library; a refusal is its number, and 0 stands for none.
-pub mod taken; // taken.rt: the numbers of C as the library takes them
 pub mod query; // query.rt: the coverage of one pixel by a shape
 pub mod shape; // shape.rt: one shape on a lent page
 pub mod column; // column.rt: the last column of a line in which it touches a pixel

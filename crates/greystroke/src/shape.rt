@@ -1,42 +1,19 @@
 // One shape on a lent page.
-use crate::taken::GivenClip;
-use crate::taken::GivenShape;
-use crate::taken::clip_of;
-use crate::taken::disc_of;
-use crate::taken::line_of;
-use crate::taken::ring_of;
-use crate::taken::triangle_of;
-use crate::taken::unsigned;
+use answers::shape::DrawAnswer;
+use answers::shape::draw_answer;
+use arguments::GivenClip;
+use arguments::GivenShape;
+use arguments::clip_of;
+use arguments::disc_of;
+use arguments::line_of;
+use arguments::ring_of;
+use arguments::triangle_of;
+use arguments::unsigned;
 ghost use mathlib.Core.Path.{_≡_};
 ghost use lib.ListN.{length};
-ghost use Rattle.greystroke.specs.Taken.{takenOf};
-ghost use Rattle.greystroke.specs.Answers.{drawn, shapeDrawn, pageDrawn};
-
-// How many pixels were touched where refusal is 0; else 0.
-#[repr(C)]
-pub struct DrawAnswer {
-    pub refusal: u32,
-    pub place: usize,
-    pub touched: u64,
-}
-
-// The library's answer in the form that C takes.
-fn draw_answer(outcome: draw::Outcome) -> DrawAnswer
-    ensures { λ r. ⌜ r ≡ drawn outcome ⌝ }
-{
-    match outcome {
-        draw::Outcome::Touched(touched) => DrawAnswer {
-            refusal: 0,
-            place: 0,
-            touched,
-        },
-        draw::Outcome::Refused(refusal) => DrawAnswer {
-            refusal: refusal as u32,
-            place: 0,
-            touched: 0,
-        },
-    }
-}
+ghost use Rattle.arguments.specs.Taken.{takenOf};
+ghost use Rattle.answers.specs.Shape.{drawn};
+ghost use Rattle.greystroke.specs.Shape.{shapeDrawn, pageDrawn};
 
 // Each kind is drawn by a function of its own, so that no shape has to be told apart again below.
 fn draw(

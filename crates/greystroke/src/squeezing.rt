@@ -1,38 +1,13 @@
 // A list squeezed into a lent output.
-use squeeze::Answer;
+use answers::list::SqueezeAnswer;
+use answers::list::squeeze_answer;
 ghost use mathlib.Core.Path.{_≡_};
 ghost use lib.ListN.{length};
-ghost use Rattle.lists.specs.Format.{headerAt};
+ghost use Rattle.format.specs.Format.{headerAt};
 ghost use Rattle.lists.specs.List.{pagelessRecords};
-ghost use Rattle.squeeze.specs.Squeeze.{squeezeAnswer, squeezeOutput};
-ghost use Rattle.squeeze.specs.Claim.{KeepsBy};
-ghost use Rattle.greystroke.specs.Lists.{squeezeAnswered};
-
-// How many bytes the squeezed list has where refusal is 0; else the place of the refusal, and 0.
-#[repr(C)]
-pub struct SqueezeAnswer {
-    pub refusal: u32,
-    pub place: usize,
-    pub length: usize,
-}
-
-// The library's answer in the form that C takes.
-fn squeeze_answer(answer: Answer) -> SqueezeAnswer
-    ensures { λ r. ⌜ r ≡ squeezeAnswered answer ⌝ }
-{
-    match answer {
-        Answer::Squeezed(length) => SqueezeAnswer {
-            refusal: 0,
-            place: 0,
-            length,
-        },
-        Answer::Refused { refusal, place } => SqueezeAnswer {
-            refusal: refusal as u32,
-            place,
-            length: 0,
-        },
-    }
-}
+ghost use Rattle.squeezed.specs.Squeeze.{squeezeAnswer, squeezeOutput};
+ghost use Rattle.squeezed.specs.Claim.{KeepsBy};
+ghost use Rattle.answers.specs.List.{squeezeAnswered};
 
 // Squeezes a list into an output.
 #[no_mangle]

@@ -1,52 +1,18 @@
 // The writer of a drawing list: a header or one record into a lent list.
-use crate::taken::GivenBasis;
-use crate::taken::GivenClip;
-use crate::taken::GivenShape;
-use crate::taken::Taken;
-use crate::taken::basis_given;
-use crate::taken::basis_of;
-use lists::format::Header;
-use lists::write::Written;
-use shapes::Basis;
+use answers::record::WriteAnswer;
+use answers::record::write_answer;
+use arguments::GivenBasis;
+use arguments::GivenClip;
+use arguments::GivenShape;
+use arguments::Taken;
+use arguments::basis_of;
+use format::Header;
 use shapes::Record;
 use shapes::Setting;
 ghost use mathlib.Core.Path.{_≡_};
-ghost use Rattle.lists.specs.Write.{headerList};
-ghost use Rattle.greystroke.specs.Taken.{clipOf, takenOf};
-ghost use Rattle.greystroke.specs.Lists.{writeAnswer, headerOf, headerPut, recordPut, afterRecord, shapePut, afterShape};
-
-// Where the next record goes, and the version, W and H that are held from now on; after a refusal they are those that were given.
-#[repr(C)]
-pub struct WriteAnswer {
-    pub refusal: u32,
-    pub place: usize,
-    pub next: usize,
-    pub basis: GivenBasis,
-}
-
-// The writer's answer in the form that C takes; the basis is the one that was given.
-fn write_answer(basis: GivenBasis, written: Written) -> WriteAnswer
-    ensures { λ r. ⌜ r ≡ writeAnswer basis written ⌝ }
-{
-    if 0 < written.refusal {
-        return WriteAnswer {
-            refusal: written.refusal as u32,
-            place: 0,
-            next: written.place,
-            basis,
-        };
-    }
-    WriteAnswer {
-        refusal: written.refusal as u32,
-        place: 0,
-        next: written.place,
-        basis: basis_given(Basis {
-            version: written.version,
-            w: written.w,
-            h: written.h,
-        }),
-    }
-}
+ghost use Rattle.records.specs.Write.{headerList};
+ghost use Rattle.arguments.specs.Taken.{clipOf, takenOf};
+ghost use Rattle.greystroke.specs.Writing.{headerOf, headerPut, recordPut, afterRecord, shapePut, afterShape};
 
 // Writes a header of a version, W and H to byte 0; held is the basis that the writer holds.
 #[no_mangle]
@@ -68,7 +34,7 @@ pub extern "C" fn greystroke_write_header(
         h: told.h,
         background,
     };
-    let written = lists::write::write_header(list, place, kept.version, kept.w, kept.h, header);
+    let written = records::write::write_header(list, place, kept.version, kept.w, kept.h, header);
     write_answer(held, written)
 }
 
@@ -78,7 +44,7 @@ fn write(list: &mut [u8], place: usize, basis: GivenBasis, rec: Record) -> Write
     ensures { λ r. ⌜ now (list .exit) ≡ afterRecord (now (list .entry)) place basis rec ⌝ }
 {
     let kept = basis_of(basis);
-    let written = lists::write::write_record(list, place, kept.version, kept.w, kept.h, rec);
+    let written = records::write::write_record(list, place, kept.version, kept.w, kept.h, rec);
     write_answer(basis, written)
 }
 
@@ -106,7 +72,7 @@ pub extern "C" fn greystroke_write_clip(
     ensures { λ r. ⌜ r ≡ recordPut (now (list .entry)) place basis (Record.Setting (Setting.Clip (clipOf clip))) ⌝ }
     ensures { λ r. ⌜ now (list .exit) ≡ afterRecord (now (list .entry)) place basis (Record.Setting (Setting.Clip (clipOf clip))) ⌝ }
 {
-    let kept = crate::taken::clip_of(clip);
+    let kept = arguments::clip_of(clip);
     write(list, place, basis, Record::Setting(Setting::Clip(kept)))
 }
 
@@ -149,7 +115,7 @@ pub extern "C" fn greystroke_write_shape(
     ensures { λ r. ⌜ r ≡ shapePut (now (list .entry)) place basis (takenOf shape) ⌝ }
     ensures { λ r. ⌜ now (list .exit) ≡ afterShape (now (list .entry)) place basis (takenOf shape) ⌝ }
 {
-    match crate::taken::taken_of(shape) {
+    match arguments::taken_of(shape) {
         Taken::Known(known) => write(list, place, basis, Record::Shape(known)),
         Taken::Unknown => WriteAnswer {
             refusal: 4,

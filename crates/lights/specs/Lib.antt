@@ -1,5 +1,4 @@
--- Lights, and blending in light.
+-- Lights.
 pub mod Lights
-pub mod Blend
 pub mod Codes
 pub mod inner

@@ -1,4 +1,3 @@
--- How a blend is worked out; no entry point cites it.
+-- What is known of lights that have been tried, and of palettes; no entry point cites it.
 pub mod Fit
-pub mod Quotient
 pub mod Palette

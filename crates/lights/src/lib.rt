@@ -1,13 +1,9 @@
-// Lights, and blending in light.
+// Lights: codes as lights, which lights are fit, and palettes.
 pub mod fit; // fit.rt: which lights are fit, and which are at even steps
-pub mod even; // even.rt: blending codes, for lights at even steps
 pub mod palette; // palette.rt: the lights, and guesses at the code of a light
-pub mod uneven; // uneven.rt: the code nearest in light, for other lights
 
 ghost use mathlib.Core.Path.{_≡_};
-ghost use Prim.Native.Nat.{_≤_, _<_, _^_};
 ghost use Rattle.lights.specs.Codes.{codes};
-ghost use Rattle.lights.specs.inner.Palette.{Palette, Scaled};
 
 // 256 lights, each its code.
 pub fn code_lights() -> [u16; 256]
@@ -20,16 +16,4 @@ pub fn code_lights() -> [u16; 256]
         k += 1;
     }
     lights
-}
-
-// The scale of the blends over d.
-pub fn scale_of(palette: &[u16], d: u64) -> u64
-    requires { ⌜ Palette (now palette) × (0 < d) × (d ≤ 2 ^ 30) ⌝ }
-    ensures { λ m. ⌜ Scaled (now (palette .entry)) d m ⌝ }
-{
-    if palette.len() == 256 {
-        even::reciprocal(d)
-    } else {
-        palette::reach(palette) / d
-    }
 }

@@ -10,26 +10,26 @@ ghost use Rattle.lights.specs.inner.Palette.{middle, lightsIn, reachOf, 
 pub const PALETTE: usize = 1328;
 
 // Where the guesses begin.
-pub(crate) const FIRST_GUESS: usize = 256;
+pub const FIRST_GUESS: usize = 256;
 
 // How many stretches there are.
 const STRETCHES: usize = 1024;
 
 // By what a doubled light times reach is divided to give its stretch: 2^54.
-pub(crate) const STRETCH: u64 = 18014398509481984;
+pub const STRETCH: u64 = 18014398509481984;
 
 // The greatest guess: two codes follow it.
-pub(crate) const GUESS_MOST: usize = 253;
+pub const GUESS_MOST: usize = 253;
 
 // A light in 64 bits.
-pub(crate) fn wide(light: u16) -> u64
+pub fn wide(light: u16) -> u64
     ensures { λ r. ⌜ (r ≡ light) × (r ≤ 65535) ⌝ }
 {
     light as u64
 }
 
 // What tells the stretches of light apart: 2^63 - 1 over the last light and one.
-pub(crate) fn reach(palette: &[u16]) -> u64
+pub fn reach(palette: &[u16]) -> u64
     requires { ⌜ 256 ≤ length (now palette) ⌝ }
     ensures { λ r. ⌜ (r ≡ reachOf (now (palette .entry))) × (2 ^ 46 ≤ r) ⌝ }
 {
@@ -37,7 +37,7 @@ pub(crate) fn reach(palette: &[u16]) -> u64
 }
 
 // Twice the middle of the lights of codes k - 1 and k.
-pub(crate) fn middle_of(palette: &[u16], k: usize) -> u64
+pub fn middle_of(palette: &[u16], k: usize) -> u64
     requires { ⌜ (256 ≤ length (now palette)) × (1 ≤ k) × (k ≤ 255) ⌝ }
     ensures { λ r. ⌜ (r ≡ middle (lightOf (now (palette .entry))) k) × (r ≤ 131070) ⌝ }
 {

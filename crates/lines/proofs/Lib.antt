@@ -1,10 +1,2 @@
--- Laws of lines on a page.
-pub mod Strip
-pub mod RowPixel
-pub mod Column
-pub mod Dots
-pub mod Advance
-pub mod Fits
-pub mod Touching
-pub mod Steps
+-- Laws of a walk along several columns.
 pub mod Walk

@@ -8,15 +8,17 @@ use Rattle.shapes.specs.declared.Shape.the-variants.{Line as line}
 use Rattle.coverage.specs.inner.OnPage.{shapeOn}
 use Rattle.page.specs.inner.Paint.{Drawn}
 use Rattle.page.proofs.Drawn.{drawn-none, drawn-join}
-use Rattle.coverage.specs.declared.line.Frame.{Frame}
+use Rattle.bands.specs.declared.Frame.{Frame}
 use Rattle.page.specs.declared.View.{View}
-use Rattle.lines.specs.inner.Layout.{EndInside, Between, strip}
-use Rattle.lines.specs.inner.Stroke.{At, FirstFits, Prepared, Standing, Steppable, Inner, Extended, Drawable, ColumnsDrawn, Inside}
-use Rattle.lines.specs.declared.step.Step.{Step}
-use Rattle.lines.specs.declared.step.Stroke.{Stroke}
-use Rattle.lines.proofs.Strip.{strip-join, strip-none}
-use Rattle.lines.proofs.Advance.{row-rises}
-use Rattle.lines.proofs.Fits.{layout-le, along-most}
+use Rattle.columns.specs.inner.Layout.{EndInside, Between, strip}
+use Rattle.steps.specs.inner.Stroke.{At, FirstFits, Prepared, Standing, Steppable, Inner, Extended}
+use Rattle.lines.specs.inner.Columns.{Drawable, ColumnsDrawn}
+use Rattle.columns.specs.inner.Columns.{Inside}
+use Rattle.steps.specs.declared.Step.{Step}
+use Rattle.steps.specs.declared.Stroke.{Stroke}
+use Rattle.columns.proofs.Strip.{strip-join, strip-none}
+use Rattle.steps.proofs.Advance.{row-rises}
+use Rattle.columns.proofs.Fits.{layout-le, along-most}
 
 abbrev columns : Stroke → ℕ → ℕ → ℕ → ℕ → ℕ
 columns s p e = strip (s .view) (s .frame) p e (shapeOn (line (s .line)))

@@ -1,4 +1,2 @@
--- How a line lies on a page, a walk along it, and the columns that it takes.
-pub mod Layout
-pub mod Stroke
+-- Several columns of a stroke.
 pub mod Columns

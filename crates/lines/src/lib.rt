@@ -1,22 +1,19 @@
 // Lines on a lent page, column by column along the longer span.
-pub mod columns;
-pub mod layout;
-pub mod step;
-
-use coverage::line::Frame;
+use bands::Frame;
 use page::View;
-use step::Stroke;
+use steps::Stroke;
 ghost use mathlib.Core.Path.{_≡_};
 ghost use lib.ListN.{length};
 ghost use Rattle.shapes.specs.declared.Shape.the-variants.{Line as asShape};
 ghost use Rattle.coverage.specs.Coverage.{drawnD};
-ghost use Rattle.coverage.specs.inner.Frame.{Framed};
+ghost use Rattle.bands.specs.inner.Frame.{Framed};
 ghost use Rattle.coverage.specs.inner.OnPage.{shapeOn};
 ghost use Rattle.lights.specs.inner.Palette.{lightsIn, Palette};
 ghost use Rattle.page.specs.inner.Ink.{inkOf};
 ghost use Rattle.page.specs.inner.Paint.{inView, Lawful, Drawn};
-ghost use Rattle.lines.specs.inner.Layout.{Between, strip};
-ghost use Rattle.lines.specs.inner.Stroke.{Drawable, ColumnsDrawn, Inside};
+ghost use Rattle.columns.specs.inner.Layout.{Between, strip};
+ghost use Rattle.lines.specs.inner.Columns.{Drawable, ColumnsDrawn};
+ghost use Rattle.columns.specs.inner.Columns.{Inside};
 
 // Draws columns from to end of a stroke, if any, under the clip; hands back how many pixels they touched.
 fn draw_clipped(page: &mut [u8], palette: &[u16], s: Stroke, from: usize, end: usize) -> u64
@@ -26,9 +23,9 @@ fn draw_clipped(page: &mut [u8], palette: &[u16], s: Stroke, from: usize, end: u
     if end <= from {
         return 0;
     }
-    let mut at = step::first_step(s.layout, s.frame, from);
+    let mut at = steps::first_step(s.layout, s.frame, from);
     while at.p < end {
-        at = step::step_clipped(page, palette, s, at);
+        at = steps::step_clipped(page, palette, s, at);
     }
     at.touched
 }
@@ -41,9 +38,9 @@ fn draw_even(page: &mut [u8], palette: &[u16], s: Stroke, from: usize, end: usiz
     if end <= from {
         return 0;
     }
-    let mut at = step::first_step(s.layout, s.frame, from);
+    let mut at = steps::first_step(s.layout, s.frame, from);
     while at.p < end {
-        at = step::step_even(page, palette, s, at);
+        at = steps::step_even(page, palette, s, at);
     }
     at.touched
 }
@@ -56,9 +53,9 @@ fn draw_uneven(page: &mut [u8], palette: &[u16], s: Stroke, from: usize, end: us
     if end <= from {
         return 0;
     }
-    let mut at = step::first_step(s.layout, s.frame, from);
+    let mut at = steps::first_step(s.layout, s.frame, from);
     while at.p < end {
-        at = step::step_uneven(page, palette, s, at);
+        at = steps::step_uneven(page, palette, s, at);
     }
     at.touched
 }
@@ -91,8 +88,8 @@ pub(crate) fn draw_columns(
     ensures { λ t. ⌜ Drawn (view .w) (view .h) (inkOf (lightsIn (now (palette .entry))) level (drawnD (asShape line)))
         (strip view f from end (shapeOn (asShape line))) (now (page .entry)) (now (page .exit)) t ⌝ }
 {
-    let lay = layout::layout_of(view, f);
-    let d = coverage::line::whole_of(line.exact, f.l, f.s);
+    let lay = columns::layout::layout_of(view, f);
+    let d = bands::whole_of(line.exact, f.l, f.s);
     let s = Stroke {
         view,
         line,
@@ -100,7 +97,7 @@ pub(crate) fn draw_columns(
         layout: lay,
         level,
         d,
-        m: lights::scale_of(palette, d),
+        m: blending::scale_of(palette, d),
     };
     let inside = columns::inside_of(lay, f, from, end);
     let lower = draw_clipped(page, palette, s, from, inside.from);

@@ -10,12 +10,12 @@ use lib.ListN.{length, drop, length-drop}
 use Rattle.numbers.proofs.Order.{lt-or-le, eq-or-ne}
 use Rattle.shapes.specs.declared.Basis.{Basis}
 use Rattle.shapes.specs.declared.Record.{Record}
-use Rattle.lists.specs.Format.{headerSize, headerAt, basisOf, kindAt, sizeAt, recordAt}
-use Rattle.lists.specs.Read.{readRefusal}
+use Rattle.format.specs.Format.{headerSize, headerAt, basisOf, kindAt, sizeAt, recordAt}
+use Rattle.records.specs.Read.{readRefusal}
 use Rattle.lists.specs.List.{Records, accepted, refused, onto, behindEnd, headerRefusal, recordsFrom, recordsOf, checkedAs}
-use Rattle.lists.specs.declared.format.Header.{Header}
+use Rattle.format.specs.declared.Header.{Header}
 use Rattle.lists.specs.declared.check.Checked.the-variants.{Accepted}
-use Rattle.lists.proofs.Refusals.{Readable, readable}
+use Rattle.records.proofs.Refusals.{Readable, readable}
 use Rattle.lists.proofs.Walk.{at-refusal, at-end, at-record}
 
 -- the bytes s are the records rs, the end record last

@@ -7,14 +7,14 @@ use native.Mathlib.Omega.{arith}
 use lib.IntN.{pos, negsuc}
 use Rattle.lights.specs.Lights.{fit}
 use Rattle.shapes.specs.Span.{width, height}
-use Rattle.shapes.specs.Limits.{basisBy, sizeRefusal, basisRefusal, offSize, playerRefusal, refusalWithin, offRange, refusalsOf, onOneLine, recordRefusal}
+use Rattle.limits.specs.Limits.{basisBy, sizeRefusal, basisRefusal, offSize, playerRefusal, refusalWithin, offRange, refusalsOf, onOneLine, recordRefusal}
 use Rattle.shapes.specs.declared.Shape.the-variants.{Line as line, Disc as disc, Ring as ring, Triangle as triangle}
 use Rattle.shapes.specs.declared.Setting.the-variants.{Player as player}
 use Rattle.shapes.specs.declared.Record.{Record}
 use Rattle.shapes.specs.declared.Record.the-variants.{End as end, Setting as setting, Shape as shape}
-use Rattle.lists.specs.Format.{kindSize, kindOf, decoded, fieldsOf}
-use Rattle.lists.specs.Read.{readRefusal}
-use Rattle.lists.specs.Write.{recordWriteRefusal}
+use Rattle.format.specs.Format.{kindSize, kindOf, decoded, fieldsOf}
+use Rattle.records.specs.Read.{readRefusal}
+use Rattle.records.specs.Write.{recordWriteRefusal}
 use Rattle.lists.specs.List.{accepted, refused, headerRefusal, recordsFrom, recordsOf, pageRecords}
 
 -- a list of version v with a page of 4 by 3, black

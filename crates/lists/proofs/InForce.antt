@@ -5,16 +5,16 @@ use Prim.Native.Nat.{_<_}
 use native.Mathlib.Omega.{arith}
 use borrow.Author.Tests.{le-leb, ltb-false}
 use lib.Dec.{ltb, eqb}
-use Rattle.shapes.specs.Limits.{offPage, clipRefusal, playerRefusal, recordRefusal}
-use Rattle.shapes.proofs.Limits.{clear}
+use Rattle.limits.specs.Limits.{offPage, clipRefusal, playerRefusal, recordRefusal}
+use Rattle.limits.proofs.Limits.{clear}
 use Rattle.shapes.specs.declared.Basis.{Basis}
 use Rattle.shapes.specs.declared.Record.{Record}
 use Rattle.shapes.specs.declared.Setting.the-variants.{Clip as clip, Level as level, Player as player}
 use Rattle.shapes.specs.declared.Record.the-variants.{End as end, Setting as setting, Shape as shape}
-use Rattle.lists.specs.Format.{offKind, kindOf}
-use Rattle.lists.specs.Settings.{start, inForce}
+use Rattle.format.specs.Format.{offKind, kindOf}
+use Rattle.settings.specs.Settings.{start, inForce}
 use Rattle.lists.specs.inner.Walk.{playersIn}
-use Rattle.lists.specs.declared.settings.Settings.{Settings}
+use Rattle.settings.specs.declared.Settings.{Settings}
 
 -- ---- the clip in force stays on the page
 

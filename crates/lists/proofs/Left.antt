@@ -7,20 +7,20 @@ use native.Mathlib.Nat.{le-of-eq}
 use native.Mathlib.Omega.{arith}
 use lib.ListN.{length, getD, take, drop, length-drop}
 use lib.Seq.{take-all, drop-drop, getD-drop}
-use Rattle.shapes.specs.Limits.{basisRefusal, clipRefusal, recordRefusal}
+use Rattle.limits.specs.Limits.{basisRefusal, clipRefusal, recordRefusal}
 use Rattle.shapes.specs.declared.Basis.{Basis}
 use Rattle.shapes.specs.declared.Record.{Record}
 use Rattle.shapes.specs.declared.Record.the-variants.{End as end}
-use Rattle.lists.specs.Format.{listMost, headerSize, kindSize, offKind, kindOf, kindAt, sizeAt, decoded, recordAt}
-use Rattle.lists.specs.inner.Record.{Whole}
-use Rattle.lists.proofs.Bytes.{kind-found}
-use Rattle.lists.proofs.Refusals.{Readable}
+use Rattle.format.specs.Format.{listMost, headerSize, kindSize, offKind, kindOf, kindAt, sizeAt, decoded, recordAt}
+use Rattle.format.specs.inner.Record.{Whole}
+use Rattle.format.proofs.Bytes.{kind-found}
+use Rattle.records.proofs.Refusals.{Readable}
 use Rattle.lists.proofs.InForce.{start-clip, clip-kept, start-player, player-kept}
 use Rattle.lists.proofs.Accepted.{Holds, holds, holds-readable, holds-end, Next, holds-next}
-use Rattle.lists.specs.Settings.{start, inForce}
-use Rattle.lists.specs.Drawing.{drawingOf, drawingsFrom}
+use Rattle.settings.specs.Settings.{start, inForce}
+use Rattle.settings.specs.Drawing.{drawingOf, drawingsFrom}
 use Rattle.lists.specs.inner.Walk.{recordsIn, listRecords, playersIn, Walkable}
-use Rattle.lists.specs.declared.settings.Settings.{Settings}
+use Rattle.settings.specs.declared.Settings.{Settings}
 
 -- ---- what is left
 

@@ -8,28 +8,27 @@ use borrow.Author.Tests.{lt-ltb, le-ltb, eq-eqb, ne-eqb}
 use lib.ListN.{length, getD, take, drop, length-drop}
 use lib.Seq.{take-all, drop-drop, getD-drop}
 use Rattle.numbers.specs.Sum.{total}
-use Rattle.numbers.proofs.Sum.{total-++}
-use Rattle.shapes.specs.Limits.{clipRefusal}
-use Rattle.shapes.specs.Ceiling.{clipPixels}
-use Rattle.shapes.specs.inner.Tried.{recordTried}
+use Rattle.limits.specs.Limits.{clipRefusal}
+use Rattle.ceilings.specs.Ceiling.{clipPixels}
+use Rattle.ceilings.specs.inner.Tried.{recordTried}
 use Rattle.shapes.specs.declared.Basis.{Basis}
 use Rattle.shapes.specs.declared.Record.{Record}
-use Rattle.shapes.specs.declared.Tried.{Tried}
-use Rattle.lists.specs.Format.{basisOf, kindSize, kindAt, sizeAt, recordAt}
-use Rattle.lists.specs.Read.{readRefusal}
-use Rattle.lists.specs.Settings.{start, inForce}
-use Rattle.lists.specs.Drawing.{drawingOf, drawingsFrom}
-use Rattle.lists.specs.Ceiling.{drawingCeiling, ceiling}
-use Rattle.lists.specs.inner.Record.{Whole}
-use Rattle.lists.specs.inner.Front.{FrontTried}
+use Rattle.ceilings.specs.declared.Tried.{Tried}
+use Rattle.format.specs.Format.{basisOf, kindSize, kindAt, sizeAt, recordAt}
+use Rattle.records.specs.Read.{readRefusal}
+use Rattle.settings.specs.Settings.{start, inForce}
+use Rattle.settings.specs.Drawing.{drawingOf, drawingsFrom}
+use Rattle.settings.specs.Ceiling.{ceiling}
+use Rattle.format.specs.inner.Record.{Whole}
+use Rattle.records.specs.inner.Front.{FrontTried}
 use Rattle.lists.specs.List.{Records, accepted, refused, onto, behindEnd, recordsFrom, checkedAs}
-use Rattle.lists.specs.declared.format.Header.{Header}
+use Rattle.format.specs.declared.Header.{Header}
 use Rattle.lists.specs.declared.check.Checked.{Checked}
 use Rattle.lists.specs.declared.check.Checked.the-variants.{Accepted, Refused}
-use Rattle.lists.specs.declared.settings.Settings.{Settings}
-use Rattle.lists.proofs.Refusals.{Readable, readable}
+use Rattle.settings.specs.declared.Settings.{Settings}
+use Rattle.records.proofs.Refusals.{Readable, readable}
 use Rattle.lists.proofs.InForce.{start-clip, clip-kept}
-use Rattle.lists.proofs.Ceiling.{record-counts, pixels-after, record-few}
+use Rattle.settings.proofs.Ceiling.{record-counts, pixels-after, ceiling-then, record-few}
 
 -- ---- one turn of the definition
 module _ (b : Basis) (fuel : ℕ) (s : List ℕ) (place : ℕ) where
@@ -57,7 +56,7 @@ checkedFrom d f t (refused n place) = Refused n place
 onto-checked : (d : Header) (f : Settings) (t : ℕ) (r : Record) (x : Records)
     → checkedFrom d f t (onto r x) ≡ checkedFrom d (inForce f r) (t + ceiling (drawingOf f r)) x
 unfolding drawingsFrom
-onto-checked d f t r (accepted rs) = ap (Accepted d) (omega (arith, total-++ drawingCeiling (drawingOf f r) (drawingsFrom (inForce f r) rs)))
+onto-checked d f t r (accepted rs) = ap (Accepted d) (omega (arith, ceiling-then f r rs))
 onto-checked d f t r (refused n place) = refl
 
 start-checked : (d : Header) (x : Records) → checkedAs d x ≡ checkedFrom d (start (basisOf d)) 0 x

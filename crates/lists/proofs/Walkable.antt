@@ -8,15 +8,15 @@ use lib.Dec.{ltb}
 use Rattle.lights.specs.Lights.{fit}
 use Rattle.lights.specs.inner.Fit.{Fit}
 use Rattle.lights.proofs.Rising.{fit-passed}
-use Rattle.shapes.proofs.Limits.{clear}
+use Rattle.limits.proofs.Limits.{clear}
 use Rattle.shapes.specs.declared.Record.{Record}
-use Rattle.lists.specs.Format.{headerAt, basisOf}
+use Rattle.format.specs.Format.{headerAt, basisOf}
 use Rattle.lists.specs.List.{Records, accepted, pageTests, recordsOf, checkedOf}
-use Rattle.lists.specs.declared.format.Header.{Header}
+use Rattle.format.specs.declared.Header.{Header}
 use Rattle.lists.specs.declared.check.Checked.the-variants.{Accepted}
-use Rattle.lists.proofs.Refusals.{headed}
+use Rattle.lists.proofs.Headers.{headed}
 use Rattle.lists.proofs.Accepted.{list-headed, AcceptedAs, checked-accepted}
-use Rattle.lists.specs.Drawing.{drawings}
+use Rattle.settings.specs.Drawing.{drawings}
 use Rattle.lists.specs.inner.Walk.{recordsIn, listRecords, listDrawings, Walkable}
 
 pub records-are : (tests : List (Bool × ℕ)) (s : List ℕ) (rs : List Record) → recordsOf tests s ≡ accepted rs → listRecords (basisOf (headerAt s)) s ≡ accepted rs

@@ -13,20 +13,17 @@ use Rattle.numbers.proofs.Coordinate.{bits-signed, bytes-word}
 use Rattle.numbers.proofs.Order.{AllBelow, both-true}
 use Rattle.shapes.specs.declared.Basis.{Basis}
 use Rattle.shapes.specs.declared.Record.{Record}
-use Rattle.lists.specs.Format.{listMost, headerSize, basisOf, kindSize, offKind, kindOf, words, coordinates, fieldsOf, headerBytes, recordBytes, wordAt, coordinateAt, headerAt, kindAt, sizeAt, decoded, recordAt}
-use Rattle.lists.specs.inner.Record.{Whole}
-use Rattle.lists.specs.Read.{readRefusal}
-use Rattle.lists.specs.Write.{putAt, writtenAs, recordWritten, recordList, recordsList, heldBy, listWritten, recordsWritten, writerAnswer}
-use Rattle.lists.specs.List.{markAt, accepted, recordsOf}
-use Rattle.lists.proofs.Refusals.{Readable, readable, Headed, headed}
-use Rattle.lists.specs.declared.write.Written.{Written}
-use Rattle.lists.proofs.Bytes.{each-kind, kind-found}
-use Rattle.lists.proofs.Writes.{put-length, header-done, header-none, record-done, refusal-none}
+use Rattle.format.specs.Format.{listMost, headerSize, basisOf, kindSize, offKind, kindOf, words, coordinates, fieldsOf, headerBytes, recordBytes, wordAt, coordinateAt, headerAt, kindAt, sizeAt, decoded, recordAt}
+use Rattle.format.specs.inner.Record.{Whole}
+use Rattle.records.specs.Read.{readRefusal}
+use Rattle.records.specs.Write.{putAt, writtenAs, recordWritten, recordList, recordsList, heldBy, listWritten, recordsWritten, writerAnswer}
+use Rattle.lists.specs.List.{markAt, accepted, recordsOf, AllBytes}
+use Rattle.records.proofs.Refusals.{Readable, readable}
+use Rattle.lists.proofs.Headers.{Headed, headed}
+use Rattle.records.specs.declared.write.Written.{Written}
+use Rattle.format.proofs.Bytes.{each-kind, kind-found}
+use Rattle.records.proofs.Writes.{put-length, header-done, header-none, record-done, refusal-none}
 use Rattle.lists.proofs.Accepted.{Holds, last, more, list-headed, list-holds}
-
--- each element of a list is a byte
-abbrev pub AllBytes : List ℕ → Type 0
-AllBytes s = (i : ℕ) → getD s i 0 < 256
 
 pub drop-bytes : (n : ℕ) (s : List ℕ) → AllBytes s → AllBytes (drop n s)
 drop-bytes n s b i = subst (λ (x : ℕ). x < 256) (sym (getD-drop n s i 0)) (b (n + i))

@@ -1,18 +1,19 @@
 -- "A list is tried": the refusals of a whole list in their order, each with its place, and the records and the ceiling of an accepted one (R6.6, R8.2, R8.3).
 use mathlib.Core.Bool.{Bool, not, cond, _&&_}
 use mathlib.Core.List.{List, [], _∷_}
-use Prim.Native.Nat.{ℕ, zero, suc, _+_, _*_}
+use mathlib.Core.Path.{_≡_}
+use Prim.Native.Nat.{ℕ, zero, suc, _+_, _*_, _<_}
 use lib.Dec.{ltb, eqb}
 use lib.ListN.{length, getD, drop}
 use Rattle.lights.specs.Lights.{fit}
-use Rattle.shapes.specs.Limits.{first, tried, basisRefusal}
+use Rattle.limits.specs.Limits.{first, tried, basisRefusal}
 use Rattle.shapes.specs.declared.Basis.{Basis}
 use Rattle.shapes.specs.declared.Record.{Record}
-use Rattle.lists.specs.Format.{listMost, headerSize, mark, headerAt, basisOf, kindAt, sizeAt, recordAt}
-use Rattle.lists.specs.Read.{readRefusal}
-use Rattle.lists.specs.Drawing.{drawings}
-use Rattle.lists.specs.Ceiling.{ceiling}
-use Rattle.lists.specs.declared.format.Header.{Header}
+use Rattle.format.specs.Format.{listMost, headerSize, mark, headerAt, basisOf, kindAt, sizeAt, recordAt}
+use Rattle.records.specs.Read.{readRefusal}
+use Rattle.settings.specs.Drawing.{drawings}
+use Rattle.settings.specs.Ceiling.{ceiling}
+use Rattle.format.specs.declared.Header.{Header}
 use Rattle.lists.specs.declared.check.Checked.{Checked}
 use Rattle.lists.specs.declared.check.Checked.the-variants.{Accepted, Refused}
 
@@ -85,3 +86,12 @@ pagelessRecords s = recordsOf [] s
 
 abbrev pub checkedWithoutPage : List ℕ → Checked
 checkedWithoutPage s = checkedAs (headerAt s) (pagelessRecords s)
+
+-- each element of a list is a byte, as those of a lent one are
+abbrev pub AllBytes : List ℕ → Type 0
+AllBytes s = (i : ℕ) → getD s i 0 < 256
+
+-- s is a list of bytes that is accepted, with the records rs, for a page of n bytes in some lights
+pub record AcceptedList (lights s : List ℕ) (n : ℕ) (rs : List Record) : Type 0 where
+  pub bytes : AllBytes s
+  pub is : pageRecords s n lights ≡ accepted rs

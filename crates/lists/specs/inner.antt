@@ -1,4 +1,2 @@
--- How the functions within walk over a list and hold a record's bytes.
-pub mod Record
-pub mod Front
+-- How the functions within walk over a list.
 pub mod Walk

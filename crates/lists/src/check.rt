@@ -4,18 +4,18 @@ ghost use mathlib.Core.List.{List, []};
 ghost use Prim.Native.Nat.{ℕ, suc, _≤_};
 ghost use lib.ListN.{length, drop};
 ghost use Rattle.lights.specs.inner.Fit.{IsKind};
-ghost use Rattle.shapes.specs.Limits.{first, basisRefusal};
-ghost use Rattle.lists.specs.Format.{listMost, headerSize, basisOf};
+ghost use Rattle.limits.specs.Limits.{first, basisRefusal};
+ghost use Rattle.format.specs.Format.{listMost, headerSize, basisOf};
 ghost use Rattle.lists.specs.List.{hasMark, headerRefusal, pageTests, recordsFrom, checkedAs, checkedOf, checkedWithoutPage};
-use super::format::HEADER_SIZE;
-use super::format::Header;
-use super::format::LIST_MOST;
-use super::format::basis_of;
-use super::format::read_header;
-use super::read::next_place;
-use super::read::try_front;
+use decoding::read_header;
+use format::HEADER_SIZE;
+use format::Header;
+use format::LIST_MOST;
+use format::basis_of;
 use lights::fit::Kind;
 use lights::fit::kind_of;
+use records::read::next_place;
+use records::read::try_front;
 
 // What the check answers: the header of an accepted list and the ceiling of its touches, or the number of the refusal and its place.
 pub enum Checked {
@@ -63,7 +63,7 @@ fn header_refusal(list: &[u8]) -> u8
     if !has_mark(list) {
         return 1;
     }
-    shapes::basis_refusal(basis_of(read_header(list)))
+    limits::basis_refusal(basis_of(read_header(list)))
 }
 
 // Tries the records one after the other, and adds up what the shapes count, each under the clip in force.

@@ -3,12 +3,7 @@ use mathlib.Core.Path.{_≡_, sym}
 use Prim.Native.Nat.{ℕ, suc, _+_, _*_, _/_, _≤_, _<_}
 use native.Mathlib.Nat.{div-mul-le-self, lt-div-mul-add, div-eq-of-lt-le, div-lt-iff-lt-mul}
 use native.Mathlib.Omega.{arith}
-use Rattle.numbers.specs.Nearest.{nearest}
-
--- r is within one half of n over d, and not one half below it
-pub record Nearest (n d r : ℕ) : Type 0 where
-  pub low : 2 * (r * d) ≤ 2 * n + d
-  pub high : 2 * n < 2 * (r * d) + d
+use Rattle.numbers.specs.Nearest.{nearest, Nearest}
 
 pub nearest-is : (n d : ℕ) → 0 < d → Nearest n d (nearest n d)
 unfolding nearest

@@ -2,5 +2,6 @@
 pub mod Nearest
 pub mod Coordinate
 pub mod Fraction
+pub mod Sound
 pub mod Sum
 pub mod inner

@@ -11,9 +11,9 @@ use borrow.Author.Tests.{lt-ltb}
 use lib.ListN.{length, getD, take, drop, set}
 use borrow.Rule.Slice.PartMut.{putMid}
 use Rattle.numbers.proofs.Order.{lt-or-le}
-use Rattle.lights.specs.Blend.{blend}
+use Rattle.blending.specs.Blend.{blend}
 use Rattle.lights.specs.inner.Fit.{Fit}
-use Rattle.lights.proofs.Blend.{blend-none}
+use Rattle.blending.proofs.Blend.{blend-none}
 use Rattle.page.specs.inner.Ink.{inkOf}
 use Rattle.page.specs.Page.{over}
 use Rattle.page.specs.inner.Paint.{dot, clipped, painted}

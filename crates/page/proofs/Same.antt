@@ -9,7 +9,7 @@ use lib.ListN.{getD}
 use Rattle.numbers.specs.Sum.{sumTo}
 use Rattle.numbers.specs.inner.Equal.{Equal}
 use Rattle.numbers.proofs.Sum.{sum-ext}
-use Rattle.lights.proofs.Same.{blend-same}
+use Rattle.blending.proofs.Same.{blend-same}
 use Rattle.page.specs.inner.Ink.{inkOf}
 use Rattle.page.specs.inner.Paint.{dot, touch, clipped, painted, touches, Drawn}
 use Rattle.page.proofs.Over.{over-ext}

@@ -2,8 +2,9 @@
 ghost use mathlib.Core.Path.{_≡_};
 ghost use Prim.Native.Nat.{_+_, _-_, _*_, _≤_, _<_};
 ghost use lib.ListN.{length, getD, set};
-ghost use Rattle.lights.specs.inner.Quotient.{Coverage};
-ghost use Rattle.lights.specs.inner.Palette.{lightsIn, Palette, Scaled};
+ghost use Rattle.blending.specs.inner.Quotient.{Coverage};
+ghost use Rattle.lights.specs.inner.Palette.{lightsIn, Palette};
+ghost use Rattle.blending.specs.inner.Scale.{Scaled};
 ghost use Rattle.page.specs.inner.Ink.{inkOf};
 ghost use Rattle.page.specs.Page.{over};
 ghost use Rattle.page.specs.inner.Paint.{dot, touch, Lawful, Filled, clamped};
@@ -24,14 +25,14 @@ fn ink_even(palette: &[u16], u: u8, v: u8, n: u64, d: u64, m: u64) -> u8
     requires { ⌜ Palette (now palette) × (length (now palette) ≡ 256) × Coverage n d × Scaled (now palette) d m ⌝ }
     ensures { λ r. ⌜ r ≡ dot (inkOf (lightsIn (now (palette .entry))) v d) n u ⌝ }
 {
-    lights::even::blend_even(palette, u, v, n, d, m)
+    blending::even::blend_even(palette, u, v, n, d, m)
 }
 
 fn ink_uneven(palette: &[u16], u: u8, v: u8, n: u64, d: u64, m: u64) -> u8
     requires { ⌜ Palette (now palette) × (length (now palette) ≡ 256 → ⊥) × Coverage n d × Scaled (now palette) d m ⌝ }
     ensures { λ r. ⌜ r ≡ dot (inkOf (lightsIn (now (palette .entry))) v d) n u ⌝ }
 {
-    lights::uneven::blend_uneven(palette, u, v, n, d, m)
+    blending::uneven::blend_uneven(palette, u, v, n, d, m)
 }
 
 // The same at coverage n over 512.
@@ -39,14 +40,14 @@ pub fn ink_even_512(palette: &[u16], u: u8, v: u8, n: u64) -> u8
     requires { ⌜ Palette (now palette) × (length (now palette) ≡ 256) × (n ≤ 512) ⌝ }
     ensures { λ r. ⌜ r ≡ dot (inkOf (lightsIn (now (palette .entry))) v 512) n u ⌝ }
 {
-    lights::even::blend_even_512(palette, u, v, n)
+    blending::even::blend_even_512(palette, u, v, n)
 }
 
 pub fn ink_uneven_512(palette: &[u16], u: u8, v: u8, n: u64, m: u64) -> u8
     requires { ⌜ Palette (now palette) × (length (now palette) ≡ 256 → ⊥) × (n ≤ 512) × Scaled (now palette) 512 m ⌝ }
     ensures { λ r. ⌜ r ≡ dot (inkOf (lightsIn (now (palette .entry))) v 512) n u ⌝ }
 {
-    lights::uneven::blend_uneven_512(palette, u, v, n, m)
+    blending::uneven::blend_uneven_512(palette, u, v, n, m)
 }
 
 // Blends byte k of a page, in lights at even steps, and in others.

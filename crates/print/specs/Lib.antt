@@ -1,3 +1,2 @@
 -- What the print program writes.
-pub mod Text
 pub mod Printed

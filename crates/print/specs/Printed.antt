@@ -6,7 +6,7 @@ use Rattle.drawing.specs.declared.Answer.{Answer}
 use Rattle.drawing.specs.declared.Answer.the-variants.{Drawn, Refused}
 use Rattle.drawing.specs.declared.Outcome.{Outcome}
 use Rattle.drawing.specs.Claim.{listOutcome, listPage}
-use Rattle.print.specs.Text.{refusalText, pageText}
+use Rattle.text.specs.Text.{refusalText, pageText}
 
 -- an answer, with the counts and the page as they are then
 unfoldable pub answerText : Answer → List ℕ → List ℕ → List ℕ

@@ -1,6 +1,4 @@
 // Reads a drawing list from standard input and prints its page as a plain PGM, or the refusal.
-mod text;
-
 use drawing::Answer;
 use drawing::Outcome;
 use libc::STDIN_FILENO;

@@ -1,5 +1,3 @@
--- The limits of shapes, clips and records, the spans of a line, and the ceiling of a shape.
-pub mod Limits
+-- The spans of a line, and the width and height of a triangle.
 pub mod Span
-pub mod Ceiling
 pub mod inner

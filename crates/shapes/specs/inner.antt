@@ -1,3 +1,2 @@
--- The numbers of shapes as the functions within take them, and what these tell of a record.
+-- The numbers of shapes as the functions within take them.
 pub mod Offsets
-pub mod Tried

@@ -13,7 +13,7 @@ use Rattle.edges.specs.Edge.{byZero, underD, edgeD}
 use Rattle.edges.specs.inner.Strip.{underAt, wholeMost}
 use Rattle.edges.proofs.Edge.{edge-at}
 use Rattle.edges.proofs.Found.{whole-most, whole-upright, whole-wide}
-use Rattle.shapes.specs.Limits.{triangleMost}
+use Rattle.limits.specs.Limits.{triangleMost}
 use Rattle.sides.specs.Triangle.{shareN, sideN, sideD, coverN, coverD}
 use Rattle.sides.specs.inner.Offsets.{at, Near, SideIs}
 use Rattle.sides.proofs.Round.{sum-diff}

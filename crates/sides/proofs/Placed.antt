@@ -10,10 +10,10 @@ use Rattle.numbers.proofs.Coordinate.{InRange, offset-diff, le-offset}
 use Rattle.edges.specs.Edge.{edgeD}
 use Rattle.edges.specs.inner.Strip.{wholeMost}
 use Rattle.numbers.specs.inner.Order.{dist}
-use Rattle.shapes.specs.Limits.{triangleMost}
+use Rattle.limits.specs.Limits.{triangleMost}
 use Rattle.shapes.specs.inner.Offsets.{cornersOf}
 use Rattle.shapes.specs.declared.Triangle.{Triangle}
-use Rattle.shapes.proofs.Triangles.{LawfulTriangle}
+use Rattle.limits.proofs.Triangles.{LawfulTriangle}
 use Rattle.sides.specs.Triangle.{Corner, shareN, sideN, sideD, coverN, coverD, first, second, third, triangleCover, triangleWhole}
 use Rattle.sides.specs.inner.Offsets.{at, offsetN, offsetD, Near, NearCorners}
 use Rattle.sides.proofs.Found.{side-most}

@@ -8,7 +8,7 @@ use lib.IntN.{ℤ, pos, negℤ, natAbs}
 use lib.Signed.{leZ}
 use Rattle.numbers.specs.inner.Order.{dist}
 use Rattle.numbers.proofs.Integer.{Diff, diff-of, diff-pos, diff-neg, diff-mul, diff-add, diff-unique, diff-abs, diff-shift}
-use Rattle.sides.specs.Triangle.{Corner, shareN, byRun, sideN, sideD, sumN, coverN, coverD}
+use Rattle.sides.specs.Triangle.{Corner, shareN, byRun, sideN, sideD, sumN, coverN, coverD, Same, AnyOrder}
 use Rattle.sides.proofs.Sides.{share-le, back, back-whole, side-pos}
 
 -- ---- a sum of three fractions u − w over d
@@ -72,10 +72,6 @@ cover-pos a b c =
     mul-le-mul (mul-le-mul p q) r
 
 -- ---- the corners in another order: one further round, and the other way round
-pub record Same (a b c a′ b′ c′ : Corner) (x y : ℤ) : Type 0 where
-  pub n : coverN a b c x y ≡ coverN a′ b′ c′ x y
-  pub d : coverD a b c ≡ coverD a′ b′ c′
-
 pub cover-round : (a b c : Corner) (x y : ℤ) → Same a b c b c a x y
 unfolding coverN coverD
 cover-round a b c x y =
@@ -107,13 +103,6 @@ both : {a b c a′ b′ c′ a″ b″ c″ : Corner} {x y : ℤ} → Same a b c
 both p q = record { n = p .n ∙ q .n; d = p .d ∙ q .d }
 
 -- so all six orders give the same n and d
-pub record AnyOrder (a b c : Corner) (x y : ℤ) : Type 0 where
-  pub bca : Same a b c b c a x y
-  pub cab : Same a b c c a b x y
-  pub cba : Same a b c c b a x y
-  pub bac : Same a b c b a c x y
-  pub acb : Same a b c a c b x y
-
 pub any-order : (a b c : Corner) (x y : ℤ) → AnyOrder a b c x y
 any-order a b c x y =
     let cab = both (cover-round a b c x y) (cover-round b c a x y) in

@@ -3,15 +3,18 @@ use mathlib.Core.Path.{_≡_, refl, sym, _∙_, ap, subst}
 use mathlib.Core.Bool.{Bool, true, false}
 use mathlib.Core.Logic.{⊎-elim}
 use Prim.Native.Nat.{ℕ, zero, suc, _+_, _*_, _≤_, _<_}
+use native.Mathlib.Nat.{one-mul}
 use native.Mathlib.Omega.{arith}
 use lib.Dec.{T}
 use lib.IntN.{ℤ, pos, negℤ, negℤ-negℤ, natAbs, _+ℤ_, _-ℤ_}
 use lib.Signed.{leZ}
 use Rattle.numbers.proofs.Order.{lt-or-le}
 use Rattle.numbers.proofs.Integer.{Diff, plus, minus, diff-of, diff-pos, diff-add, diff-minus, diff-shift, diff-abs, diff-le, le-diff}
-use Rattle.edges.specs.Edge.{byZero, underD, edgeD}
+use Rattle.edges.specs.Edge.{byZero, underD, heightAt, edgeD}
+use Rattle.edges.specs.Area.{Area}
 use Rattle.edges.proofs.Under.{whole-slanted}
 use Rattle.edges.proofs.Edge.{edge-le, edge-none, edge-full, edge-pos}
+use Rattle.edges.proofs.Slices.{edge-area, edge-only}
 use Rattle.edges.proofs.Turned.{turned-rising, turned-falling}
 use Rattle.sides.specs.Triangle.{Corner, shareN, byRun, sideN, sideD}
 use Rattle.sides.specs.inner.Offsets.{turned}
@@ -80,6 +83,29 @@ module _ (a b : Corner) (x y : ℤ) (e : leZ (a .x) x ≡ true) (f : leZ (b .x) 
   unfolding shareN
   share-full g h =
       edge-full 1 (natAbs (x -ℤ a .x)) (natAbs (b .x -ℤ (x +ℤ pos 1))) (off (a .y) y) (off (b .y) y) (past (a .y) y g) (past (b .y) y h) ∙ sym its-whole
+
+  -- what is under it is the area, and no other number is, l times its heights being taken at the two sides of the pixel
+  abbrev left : ℤ
+  left = heightAt (natAbs (x -ℤ a .x)) (natAbs (b .x -ℤ (x +ℤ pos 1)) + 1) (a .y -ℤ y) (b .y -ℤ y)
+
+  abbrev right : ℤ
+  right = heightAt (natAbs (x -ℤ a .x) + 1) (natAbs (b .x -ℤ (x +ℤ pos 1))) (a .y -ℤ y) (b .y -ℤ y)
+
+  wide-is : 1 * (natAbs (x -ℤ a .x) + 1 + natAbs (b .x -ℤ (x +ℤ pos 1))) ≡ natAbs (b .x -ℤ a .x)
+  wide-is = one-mul (natAbs (x -ℤ a .x) + 1 + natAbs (b .x -ℤ (x +ℤ pos 1))) ∙ sym (across (a .x) (b .x) x e f .wide)
+
+  pub side-area : Area (natAbs (b .x -ℤ a .x)) left right (shareN a b x y) (sideD a b)
+  unfolding shareN
+  side-area =
+      subst (λ (l : ℕ). Area l left right (shareN a b x y) (sideD a b)) wide-is
+      (rw its-whole (edge-area 1 (natAbs (x -ℤ a .x)) (natAbs (b .x -ℤ (x +ℤ pos 1))) (a .y -ℤ y) (b .y -ℤ y)))
+
+  pub side-only : (n d : ℕ) → Area (natAbs (b .x -ℤ a .x)) left right n d → n * sideD a b ≡ shareN a b x y * d
+  unfolding shareN
+  side-only n d area =
+      rw its-whole
+      (edge-only 1 (natAbs (x -ℤ a .x)) (natAbs (b .x -ℤ (x +ℤ pos 1))) (a .y -ℤ y) (b .y -ℤ y) n d (omega arith)
+      (subst (λ (l : ℕ). Area l left right n d) (sym wide-is) area))
 
 -- ---- a side of l columns and k rows that is over the column and the row
 crossed-whole : (a b : Corner) (l k : ℕ) → 0 < l → 0 < k → natAbs (b .x -ℤ a .x) ≡ l → natAbs (b .y -ℤ a .y) ≡ k → sideD a b ≡ 2 * (l * k)

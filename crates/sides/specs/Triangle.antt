@@ -1,5 +1,6 @@
 -- A triangle's coverage of a pixel, n over d, from the areas under its sides (R5.4 to R5.6).
 use mathlib.Core.Bool.{Bool, true, false}
+use mathlib.Core.Path.{_≡_}
 use Prim.Native.Nat.{ℕ, _*_}
 use lib.IntN.{ℤ, pos, negℤ, natAbs, _+ℤ_, _-ℤ_, _*ℤ_}
 use lib.Signed.{leZ}
@@ -61,3 +62,18 @@ triangleWhole t = coverD (first t) (second t) (third t)
 -- n and d of pixel (x, y)
 abbrev pub coverOf : Triangle → ℤ → ℤ → Cover
 coverOf t x y = record { n = triangleCover t x y; d = triangleWhole t }
+
+-- ---- the corners in another order
+
+-- two orders give the same n and d
+pub record Same (a b c a′ b′ c′ : Corner) (x y : ℤ) : Type 0 where
+  pub n : coverN a b c x y ≡ coverN a′ b′ c′ x y
+  pub d : coverD a b c ≡ coverD a′ b′ c′
+
+-- and so do the other five as the one from a to b to c
+pub record AnyOrder (a b c : Corner) (x y : ℤ) : Type 0 where
+  pub bca : Same a b c b c a x y
+  pub cab : Same a b c c a b x y
+  pub cba : Same a b c c b a x y
+  pub bac : Same a b c b a c x y
+  pub acb : Same a b c a c b x y

@@ -8,7 +8,7 @@ ghost use lib.IntN.{pos};
 ghost use Rattle.numbers.specs.Coordinate.{inRange};
 ghost use Rattle.numbers.specs.inner.Offset.{offsetMost};
 ghost use Rattle.edges.specs.inner.Strip.{wholeMost};
-ghost use Rattle.shapes.specs.Limits.{shapeRefusal};
+ghost use Rattle.limits.specs.Limits.{shapeRefusal};
 ghost use Rattle.shapes.specs.declared.Shape.the-variants.{Triangle as asTriangle};
 ghost use Rattle.sides.specs.Triangle.{shareN, coverOf};
 ghost use Rattle.sides.specs.inner.Offsets.{at, offsetN, offsetD, Near, NearCorners, SideIs, Tripled};

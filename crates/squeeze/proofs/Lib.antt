@@ -1,12 +1,4 @@
--- Laws of squeezed lists.
-pub mod Changes
-pub mod Sizes
-pub mod Lawful
-pub mod Shorter
-pub mod ListBack
-pub mod Same
-pub mod Keeps
-pub mod Alike
+-- Laws of squeezing a list into an output.
 pub mod Output
 pub mod Walk
 pub mod Answers

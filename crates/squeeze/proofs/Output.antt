@@ -5,8 +5,8 @@ use Prim.Native.Nat.{ℕ, suc, _+_, _≤_, _<_}
 use native.Mathlib.Omega.{arith}
 use lib.ListN.{length, set, take, drop, length-append}
 use lib.Seq.{paste, paste-zero, append-snoc, set-split, take-all}
-use Rattle.lists.specs.Write.{putAt}
-use Rattle.lists.proofs.Writes.{put-length}
+use Rattle.records.specs.Write.{putAt}
+use Rattle.records.proofs.Writes.{put-length}
 use Rattle.lists.proofs.WriteBack.{put-put}
 use Rattle.squeeze.specs.inner.Walk.{Put}
 

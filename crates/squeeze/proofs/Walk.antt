@@ -12,18 +12,20 @@ use Rattle.shapes.specs.declared.Setting.{Setting}
 use Rattle.shapes.specs.declared.Shape.{Shape}
 use Rattle.shapes.specs.declared.Record.{Record}
 use Rattle.shapes.specs.declared.Record.the-variants.{End as end, Setting as setting, Shape as shape}
-use Rattle.lists.specs.Format.{headerSize, kindSize, kindOf, fieldsOf, kindAt, decoded, recordAt, recordBytes}
-use Rattle.lists.specs.Settings.{start, inForce}
-use Rattle.lists.specs.Drawing.{Drawing, drawingOf, drawingsFrom}
+use Rattle.format.specs.Format.{headerSize, kindSize, kindOf, fieldsOf, kindAt, decoded, recordAt, recordBytes}
+use Rattle.settings.specs.Settings.{start, inForce}
+use Rattle.settings.specs.Drawing.{Drawing, drawingOf, drawingsFrom}
 use Rattle.lists.specs.inner.Walk.{recordsIn, listRecords, Walkable}
-use Rattle.lists.specs.declared.settings.Settings.{Settings}
-use Rattle.lists.proofs.Bytes.{record-size, each-kind, kind-found}
+use Rattle.settings.specs.declared.Settings.{Settings}
+use Rattle.format.proofs.Bytes.{record-size, each-kind, kind-found}
 use Rattle.lists.proofs.Accepted.{Holds, last, more}
 use Rattle.lists.proofs.Left.{Left, left-start, left-inside, left-stands, left-kind, left-found, left-end, left-next}
-use Rattle.lists.proofs.WriteBack.{AllBytes, drop-bytes, record-again}
-use Rattle.squeeze.specs.Squeeze.{changes, keptFrom, allBytes}
-use Rattle.squeeze.specs.inner.Walk.{sizeOf, keptOf, Squeezable, isSetting, Put}
-use Rattle.squeeze.proofs.Sizes.{all-append}
+use Rattle.lists.specs.List.{AllBytes}
+use Rattle.lists.proofs.WriteBack.{drop-bytes, record-again}
+use Rattle.squeezed.specs.Squeeze.{changes, keptFrom, allBytes}
+use Rattle.squeezed.specs.inner.Size.{sizeOf}
+use Rattle.squeeze.specs.inner.Walk.{keptOf, Squeezable, isSetting, Put}
+use Rattle.squeezed.proofs.Sizes.{all-append}
 use Rattle.squeeze.proofs.Output.{put-none, put-byte, put-same, put-is, put-then}
 
 -- ---- one record

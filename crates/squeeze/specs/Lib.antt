@@ -1,4 +1,2 @@
--- Lists squeezed for storage.
-pub mod Squeeze
-pub mod Claim
+-- Squeezing has no definition of its own that an entry point cites: what a list is squeezed to is `squeezed`'s.
 pub mod inner

@@ -1,9 +1,9 @@
 // What a walk asks of a kind.
-use lists::format::kind_size;
+use format::kind_size;
 ghost use mathlib.Core.Path.{_≡_};
 ghost use Prim.Native.Nat.{ℕ, _<_};
 ghost use lib.ListN.{getD};
-ghost use Rattle.lists.specs.Format.{kindSize};
+ghost use Rattle.format.specs.Format.{kindSize};
 ghost use Rattle.squeeze.specs.inner.Walk.{isSetting};
 
 // How many kinds there are.

@@ -3,25 +3,21 @@ mod kinds;
 mod put;
 mod size;
 
+use format::Header;
 use lists::check::Checked;
-use lists::format::Header;
 use shapes::Basis;
+use squeezed::Answer;
 ghost use mathlib.Core.Path.{_≡_};
 ghost use Prim.Native.Nat.{_+_};
 ghost use lib.Dec.{ltb};
 ghost use lib.ListN.{length};
-ghost use Rattle.lists.specs.Format.{headerSize, headerAt, basisOf};
+ghost use Rattle.format.specs.Format.{headerSize, headerAt, basisOf};
 ghost use Rattle.lists.specs.List.{pagelessRecords};
 ghost use Rattle.lists.specs.inner.Walk.{listDrawings, Walkable};
-ghost use Rattle.squeeze.specs.Squeeze.{squeezed, fitted, filled, squeezeAnswer, squeezeOutput};
-ghost use Rattle.squeeze.specs.inner.Walk.{sizeOf, keptOf};
-ghost use Rattle.squeeze.specs.Claim.{KeepsBy};
-
-// What squeezing answers: the length of the squeezed list, or the number of the refusal and its place.
-pub enum Answer {
-    Squeezed(usize),
-    Refused { refusal: u8, place: usize },
-}
+ghost use Rattle.squeezed.specs.Squeeze.{squeezed, fitted, filled, squeezeAnswer, squeezeOutput};
+ghost use Rattle.squeezed.specs.inner.Size.{sizeOf};
+ghost use Rattle.squeeze.specs.inner.Walk.{keptOf};
+ghost use Rattle.squeezed.specs.Claim.{KeepsBy};
 
 // Whether n bytes are too few for what a list is squeezed to. That is never longer than the list, so that it is measured only for less.
 fn too_few(n: usize, list: &[u8], basis: Basis) -> bool
@@ -40,14 +36,14 @@ fn squeeze_accepted(out: &mut [u8], list: &[u8], header: Header) -> Answer
     ensures { λ r. ⌜ r ≡ fitted (length (now (out .entry))) (squeezed header (listDrawings (basisOf header) (now (list .entry)))) ⌝ }
     ensures { λ r. ⌜ now (out .exit) ≡ filled (now (out .entry)) (squeezed header (listDrawings (basisOf header) (now (list .entry)))) ⌝ }
 {
-    let basis = lists::format::basis_of(header);
+    let basis = format::basis_of(header);
     if too_few(out.len(), list, basis) {
         return Answer::Refused {
             refusal: 22,
             place: 0,
         };
     }
-    lists::write::write_header(out, 0, header.version, header.w, header.h, header);
+    records::write::write_header(out, 0, header.version, header.w, header.h, header);
     Answer::Squeezed(put::put_records(out, list, basis))
 }
 

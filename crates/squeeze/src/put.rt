@@ -2,8 +2,8 @@
 use crate::kinds::is_setting;
 use crate::kinds::kind_sizes;
 use crate::size::same_clip;
-use lists::format::HEADER_SIZE;
-use lists::settings::Settings;
+use format::HEADER_SIZE;
+use settings::Settings;
 use shapes::Basis;
 use shapes::Clip;
 use shapes::Setting;
@@ -12,9 +12,10 @@ ghost use mathlib.Core.List.{[], _∷_, _++_};
 ghost use Prim.Native.Nat.{_+_, _≤_};
 ghost use lib.ListN.{length};
 ghost use Rattle.numbers.specs.Coordinate.{bytesOf};
-ghost use Rattle.lists.specs.Format.{headerSize, words};
-ghost use Rattle.squeeze.specs.Squeeze.{change, changes, allBytes};
-ghost use Rattle.squeeze.specs.inner.Walk.{sizeOf, keptOf, Squeezable, Put};
+ghost use Rattle.format.specs.Format.{headerSize, words};
+ghost use Rattle.squeezed.specs.Squeeze.{change, changes, allBytes};
+ghost use Rattle.squeezed.specs.inner.Size.{sizeOf};
+ghost use Rattle.squeeze.specs.inner.Walk.{keptOf, Squeezable, Put};
 
 // Each of these puts some bytes at a place of the output, and hands back the place behind them.
 fn copy(out: &mut [u8], place: usize, bytes: &[u8]) -> usize
@@ -123,7 +124,7 @@ pub(crate) fn put_records(out: &mut [u8], list: &[u8], basis: Basis) -> usize
     ensures { λ r. ⌜ Put (allBytes (keptOf basis (now (list .entry)))) headerSize (now (out .entry)) (now (out .exit)) r ⌝ }
 {
     let sizes = kind_sizes();
-    let start = lists::settings::first_settings(basis);
+    let start = settings::first_settings(basis);
     let mut before = start;
     let mut settings = start;
     let mut end = HEADER_SIZE;
@@ -131,9 +132,9 @@ pub(crate) fn put_records(out: &mut [u8], list: &[u8], basis: Basis) -> usize
     while place + 1 < list.len() {
         let kind = list[place];
         if is_setting(kind) {
-            let rec = lists::format::decode(&list[place..]);
-            settings = lists::settings::settings_after(settings, rec);
-            place = lists::read::next_place(list, place);
+            let rec = decoding::decode(&list[place..]);
+            settings = settings::settings_after(settings, rec);
+            place = records::read::next_place(list, place);
         } else {
             let next = place + sizes[kind as usize];
             end = put_shape(out, end, before, settings, &list[place..next]);

@@ -1,17 +1,18 @@
 // The length of a squeezed list.
 use crate::kinds::is_setting;
 use crate::kinds::kind_sizes;
-use lists::format::HEADER_SIZE;
-use lists::settings::Settings;
+use format::HEADER_SIZE;
+use settings::Settings;
 use shapes::Basis;
 use shapes::Clip;
 ghost use mathlib.Core.Path.{_≡_};
 ghost use mathlib.Core.Bool.{cond};
 ghost use Prim.Native.Nat.{_+_, _≤_};
-ghost use Rattle.lists.specs.Format.{headerSize};
+ghost use Rattle.format.specs.Format.{headerSize};
 ghost use Rattle.lists.specs.inner.Walk.{Walkable};
-ghost use Rattle.squeeze.specs.Squeeze.{sameClip, changes};
-ghost use Rattle.squeeze.specs.inner.Walk.{sizeOf, keptOf};
+ghost use Rattle.squeezed.specs.Squeeze.{sameClip, changes};
+ghost use Rattle.squeezed.specs.inner.Size.{sizeOf};
+ghost use Rattle.squeeze.specs.inner.Walk.{keptOf};
 
 // Whether two clips are the same.
 pub(crate) fn same_clip(a: Clip, b: Clip) -> bool
@@ -52,7 +53,7 @@ pub(crate) fn squeezed_size(list: &[u8], basis: Basis) -> usize
     ensures { λ r. ⌜ r ≡ headerSize + sizeOf (keptOf basis (now (list .entry))) ⌝ }
 {
     let sizes = kind_sizes();
-    let start = lists::settings::first_settings(basis);
+    let start = settings::first_settings(basis);
     let mut before = start;
     let mut settings = start;
     let mut size = HEADER_SIZE;
@@ -60,9 +61,9 @@ pub(crate) fn squeezed_size(list: &[u8], basis: Basis) -> usize
     while place + 1 < list.len() {
         let kind = list[place];
         if is_setting(kind) {
-            let rec = lists::format::decode(&list[place..]);
-            settings = lists::settings::settings_after(settings, rec);
-            place = lists::read::next_place(list, place);
+            let rec = decoding::decode(&list[place..]);
+            settings = settings::settings_after(settings, rec);
+            place = records::read::next_place(list, place);
         } else {
             let n = sizes[kind as usize];
             size += changes_size(before, settings) + n;

@@ -7,7 +7,7 @@ use native.Mathlib.Omega.{arith}
 use lib.ListN.{length}
 use Rattle.numbers.specs.inner.Offset.{origin}
 use Rattle.lights.specs.inner.Palette.{lightsIn}
-use Rattle.lights.proofs.Blend.{blend-whole}
+use Rattle.blending.proofs.Blend.{blend-whole}
 use Rattle.lights.proofs.LightsIn.{lights-fit}
 use Rattle.page.specs.inner.Ink.{inkOf}
 use Rattle.page.specs.inner.Paint.{clamped, Lawful, Filled}

@@ -25,7 +25,7 @@ use Rattle.shapes.specs.inner.Offsets.{cornersOf}
 use Rattle.shapes.specs.declared.Corners.{Corners}
 use Rattle.shapes.specs.declared.Triangle.{Triangle}
 use Rattle.shapes.specs.declared.Shape.the-variants.{Triangle as triangle}
-use Rattle.shapes.proofs.Triangles.{LawfulTriangle}
+use Rattle.limits.proofs.Triangles.{LawfulTriangle}
 use Rattle.sides.specs.inner.Offsets.{at, turned, rowN, rowD, betweenN, betweenD, offsetN, offsetD}
 use Rattle.sides.proofs.Sides.{share-le, side-pos}
 use Rattle.sides.proofs.Round.{cover-le, cover-pos}

@@ -5,7 +5,8 @@ use native.Mathlib.Omega.{arith}
 use lib.IntN.{pos}
 use Rattle.shapes.specs.declared.Corners.{Corners}
 use Rattle.sides.specs.inner.Offsets.{at, Near, NearCorners}
-use Rattle.sides.proofs.Round.{AnyOrder, any-order}
+use Rattle.sides.specs.Triangle.{AnyOrder}
+use Rattle.sides.proofs.Round.{any-order}
 use Rattle.triangles.specs.inner.Order.{Reordered, Sorted}
 
 pub near-back : {xa ya xb yb : ℕ} → Near xa ya xb yb → Near xb yb xa ya

@@ -11,10 +11,11 @@ ghost use mathlib.Core.Path.{_≡_};
 ghost use Prim.Native.Nat.{_+_, _-_, _*_, _≤_, _<_, min, max};
 ghost use lib.Dec.{ltb};
 ghost use lib.ListN.{length};
-ghost use Rattle.lights.specs.inner.Palette.{lightsIn, Palette, Scaled};
+ghost use Rattle.lights.specs.inner.Palette.{lightsIn, Palette};
+ghost use Rattle.blending.specs.inner.Scale.{Scaled};
 ghost use Rattle.page.specs.inner.Ink.{inkOf};
 ghost use Rattle.page.specs.inner.Paint.{Lawful, DrawnIn};
-ghost use Rattle.shapes.specs.Limits.{shapeRefusal};
+ghost use Rattle.limits.specs.Limits.{shapeRefusal};
 ghost use Rattle.shapes.specs.declared.Shape.the-variants.{Triangle as asTriangle};
 ghost use Rattle.sides.specs.inner.Offsets.{at, rowD, Near, NearCorners};
 ghost use Rattle.coverage.specs.Coverage.{drawnD};
@@ -92,7 +93,7 @@ fn draw_rows(
     ensures { λ n. ⌜ RowsDrawn (now (palette .entry)) view level (s .d * t .d) (betweenOn s t) from end (now (page .entry)) (now (page .exit)) n ⌝ }
 {
     let d = product(s.d, t.d);
-    let m = lights::scale_of(palette, d);
+    let m = blending::scale_of(palette, d);
     let mut touched: u64 = 0;
     let mut y = from;
     while y < end {

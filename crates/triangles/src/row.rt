@@ -7,7 +7,7 @@ ghost use mathlib.Core.Path.{_≡_};
 ghost use Prim.Native.Nat.{_+_, _*_, _≤_, _<_};
 ghost use lib.ListN.{length};
 ghost use Rattle.numbers.specs.inner.Offset.{offsetMost};
-ghost use Rattle.lights.specs.inner.Palette.{Scaled};
+ghost use Rattle.blending.specs.inner.Scale.{Scaled};
 ghost use Rattle.triangles.specs.inner.Side.{leftOf, CutFit};
 ghost use Rattle.triangles.specs.inner.Row.{rightOf, betweenOf, RowDrawn, Stretch, Ready};
 

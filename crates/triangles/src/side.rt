@@ -4,7 +4,8 @@ ghost use Prim.Native.Nat.{_+_, _-_, _*_, _^_, _/_, _≤_, _<_};
 ghost use Rattle.numbers.specs.inner.Inverse.{Inverse};
 ghost use Rattle.edges.specs.inner.Strip.{spanMost, heightMost};
 ghost use Rattle.sides.specs.inner.Offsets.{Near};
-ghost use Rattle.lights.specs.inner.Palette.{Palette, Scaled};
+ghost use Rattle.lights.specs.inner.Palette.{Palette};
+ghost use Rattle.blending.specs.inner.Scale.{Scaled};
 ghost use Rattle.triangles.specs.inner.Side.{SideFit, SideIs, CutOf};
 
 // A side that goes up h rows from row y on, and over them so many columns to the right, or to the left. In a row it stands between two
@@ -65,7 +66,7 @@ pub(crate) fn side_of(palette: &[u16], xa: u64, ya: u64, xb: u64, yb: u64) -> Si
         start: edges::scaled(h, xa) - left,
         inverse: inverse_of(h),
         d,
-        m: lights::scale_of(palette, d),
+        m: blending::scale_of(palette, d),
     }
 }
 

@@ -44,12 +44,12 @@ use denote.Triple.Walked.{says, Stays, Silent, stay-ref, stay-none, walkOf, goes
 use denote.Exit.{Last, yes}
 use denote.Signature.{Slot, plain, namedLft}
 use denote.Signature.Struct.{makes}
-use Rattle.shapes.specs.Limits.{basisBy}
+use Rattle.limits.specs.Limits.{basisBy}
 use Rattle.shapes.specs.declared.Basis.{Basis}
-use Rattle.lists.specs.Write.{heldBy}
-use Rattle.lists.specs.declared.write.Written.{Written}
-use Rattle.lists.proofs.write.Written as P
-use Rattle.lists.proofs.write.Written.Laws as P′
+use Rattle.records.specs.Write.{heldBy}
+use Rattle.records.specs.declared.write.Written.{Written}
+use Rattle.records.proofs.write.Written as P
+use Rattle.records.proofs.write.Written.Laws as P′
 use Rattle.writer.specs.Writer.{heldIn, moved}
 use Rattle.writer.specs.declared.Writer.{Writer}
 use Rattle.writer.proofs.Writer as T

@@ -2,12 +2,12 @@
 use mathlib.Core.List.{List}
 use Prim.Native.Nat.{ℕ}
 use denote.Ref.{now, at-last}
-use Rattle.shapes.specs.Limits.{basisBy}
+use Rattle.limits.specs.Limits.{basisBy}
 use Rattle.shapes.specs.declared.Basis.{Basis}
 use Rattle.shapes.specs.declared.Record.{Record}
-use Rattle.lists.specs.Write.{heldBy, headerWritten, headerList, recordWritten, recordList}
-use Rattle.lists.specs.declared.format.Header.{Header}
-use Rattle.lists.specs.declared.write.Written.{Written}
+use Rattle.records.specs.Write.{heldBy, headerWritten, headerList, recordWritten, recordList}
+use Rattle.format.specs.declared.Header.{Header}
+use Rattle.records.specs.declared.write.Written.{Written}
 use Rattle.writer.specs.declared.Writer.{Writer}
 use Rattle.writer.specs.declared.Started.{Started}
 

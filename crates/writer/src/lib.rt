@@ -1,8 +1,8 @@
 // The writer of a drawing list: the list being written together with the place reached, and the version, W and H that are held.
-// The work is done by `lists::write`; the thin functions take the writer apart and store what is answered.
+// The work is done by `records::write`; the thin functions take the writer apart and store what is answered.
 ghost use mathlib.Core.Path.{_≡_};
 ghost use Rattle.writer.specs.Writer.{headerBy, recordBy, headed, recorded, startedOf, startedList};
-use lists::format::Header;
+use format::Header;
 use shapes::Record;
 
 pub struct Writer<'a> {
@@ -17,7 +17,7 @@ pub struct Writer<'a> {
 pub fn write_header<'s, 'a>(writer: &'s mut Writer<'a>, header: Header) -> u8
     ensures { λ r. ⌜ (r ≡ headerBy (now (writer .entry)) header .refusal) × (now (writer .exit) ≡ headed (now (writer .entry)) header) ⌝ }
 {
-    let written = lists::write::write_header(
+    let written = records::write::write_header(
         &mut *writer.list,
         writer.place,
         writer.version,
@@ -36,7 +36,7 @@ pub fn write_header<'s, 'a>(writer: &'s mut Writer<'a>, header: Header) -> u8
 pub fn write_record<'s, 'a>(writer: &'s mut Writer<'a>, rec: Record) -> u8
     ensures { λ r. ⌜ (r ≡ recordBy (now (writer .entry)) rec .refusal) × (now (writer .exit) ≡ recorded (now (writer .entry)) rec) ⌝ }
 {
-    let written = lists::write::write_record(
+    let written = records::write::write_record(
         &mut *writer.list,
         writer.place,
         writer.version,

@@ -1,8 +1,8 @@
 -- The arrays hold the heights of the two circles.
 use mathlib.Core.Path.{_≡_}
 use native.Mathlib.Omega.{arith}
-use Rattle.coverage.specs.Circle.{heightOf}
-use Rattle.circles.specs.inner.Row.{at}
+use Rattle.chords.specs.Circle.{heightOf}
+use Rattle.rings.specs.inner.Heights.{at}
 use Rattle.circles.proofs.Box.{held, circles-of}
 use borrow.Author.Needs.{needs}
 use Rattle.circles.proofs.draw_by_heights.Statement.{statement}

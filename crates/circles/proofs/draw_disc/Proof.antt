@@ -5,21 +5,21 @@ use Prim.Native.Nat.{ℕ, _-_, _≤_}
 use native.Mathlib.Omega.{arith}
 use borrow.Author.Needs.{needs}
 use Rattle.numbers.specs.inner.Offset.{offsetMost}
-use Rattle.shapes.specs.Limits.{radiusMost}
+use Rattle.limits.specs.Limits.{radiusMost}
 use Rattle.shapes.specs.inner.Offsets.{pointOf}
 use Rattle.shapes.specs.declared.Point.{Point}
 use Rattle.shapes.specs.declared.Disc.{Disc}
 use Rattle.shapes.specs.declared.Shape.the-variants.{Disc as asShape}
-use Rattle.shapes.proofs.Limits.{LawfulCircle, disc-lawful, point-kept}
-use Rattle.coverage.specs.Circle.{heightOf}
+use Rattle.limits.proofs.Limits.{LawfulCircle, disc-lawful, point-kept}
+use Rattle.chords.specs.Circle.{heightOf}
 use Rattle.coverage.specs.Coverage.{rulesOf, drawnD}
 use Rattle.coverage.specs.inner.OnPage.{shapeOn}
 use Rattle.lights.specs.inner.Palette.{lightsIn}
 use Rattle.page.specs.inner.Ink.{inkOf}
 use Rattle.page.specs.inner.Paint.{DrawnIn}
 use Rattle.page.proofs.Drawn.{drawn-same}
-use Rattle.circles.specs.inner.Row.{betweenOn, Inked}
-use Rattle.circles.specs.declared.Ring.{Ring}
+use Rattle.rings.specs.inner.Placed.{betweenOn, Inked}
+use Rattle.rings.specs.declared.Ring.{Ring}
 use Rattle.circles.proofs.Shape.{disc-on}
 use Rattle.circles.proofs.draw_disc.Statement.{statement}
 use Rattle.circles.proofs.draw_disc.Tie as tie

@@ -1,8 +1,8 @@
 -- The arrays are zeros and long enough.
 use Prim.Native.Nat.{_+_}
 use native.Mathlib.Omega.{arith}
-use Rattle.shapes.specs.Limits.{radiusMost}
-use Rattle.coverage.proofs.Height.{zeros}
+use Rattle.limits.specs.Limits.{radiusMost}
+use Rattle.chords.proofs.Height.{zeros}
 use borrow.Author.Needs.{needs}
 use Rattle.circles.proofs.draw_huge.Statement.{statement}
 use Rattle.circles.proofs.draw_huge.Tie as tie

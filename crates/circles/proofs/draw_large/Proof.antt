@@ -1,8 +1,8 @@
 -- The arrays are zeros and long enough.
 use Prim.Native.Nat.{_+_}
 use native.Mathlib.Omega.{arith}
-use Rattle.circles.specs.inner.Row.{largeMost}
-use Rattle.coverage.proofs.Height.{zeros}
+use Rattle.circles.specs.inner.Arrays.{largeMost}
+use Rattle.chords.proofs.Height.{zeros}
 use borrow.Author.Needs.{needs}
 use Rattle.circles.proofs.draw_large.Statement.{statement}
 use Rattle.circles.proofs.draw_large.Tie as tie

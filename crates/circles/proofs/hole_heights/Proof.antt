@@ -2,7 +2,7 @@
 use mathlib.Core.Path.{refl, sym, _∙_}
 use native.Mathlib.Omega.{arith}
 use borrow.Author.Needs.{needs}
-use Rattle.coverage.proofs.Height.{height-beyond}
+use Rattle.chords.proofs.Height.{height-beyond}
 use Rattle.circles.proofs.hole_heights.Statement.{statement}
 use Rattle.circles.proofs.hole_heights.Tie as tie
 

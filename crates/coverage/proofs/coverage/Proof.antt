@@ -5,7 +5,7 @@ use native.Mathlib.Omega.{arith}
 use mir.Syntax.{w16}
 use mir.Val.{toZ, ofZ}
 use Rattle.numbers.specs.Coordinate.{inRange}
-use Rattle.shapes.specs.Limits.{shapeRefusal}
+use Rattle.limits.specs.Limits.{shapeRefusal}
 use Rattle.coverage.specs.Coverage.{ratioOf, queried}
 use Rattle.coverage.specs.declared.Ratio.{Ratio}
 use Rattle.coverage.specs.declared.Answer.the-variants.{Covered}

@@ -7,7 +7,7 @@ use native.Mathlib.Nat.{mul-le-mul}
 use native.Mathlib.Omega.{arith}
 use borrow.Author.Tests.{lt-ltb, le-ltb}
 use lib.Dec.{ltb}
-use Rattle.shapes.specs.Limits.{sizeRefusal, clipRefusal, shapeRefusal}
+use Rattle.limits.specs.Limits.{sizeRefusal, clipRefusal, shapeRefusal}
 use Rattle.shapes.specs.declared.Shape.{Shape}
 use Rattle.lights.specs.Lights.{fit}
 use Rattle.draw.specs.Draw.{drawRefusal}

@@ -1,7 +1,7 @@
 -- The ring is drawn only where nothing is refused; lights at even steps are a palette by themselves.
 use mathlib.Core.Path.{_≡_}
 use lib.ListN.{length}
-use Rattle.shapes.specs.Limits.{shapeRefusal}
+use Rattle.limits.specs.Limits.{shapeRefusal}
 use Rattle.shapes.specs.declared.Shape.the-variants.{Ring as ring}
 use Rattle.lights.specs.inner.Fit.{Fit}
 use Rattle.lights.proofs.LightsIn.{even-palette, lights-all}

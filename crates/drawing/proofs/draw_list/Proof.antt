@@ -5,7 +5,7 @@ use Prim.Native.Nat.{ℕ}
 use denote.Ref.{now}
 use lib.ListN.{length}
 use Rattle.lists.specs.List.{checkedOf}
-use Rattle.lists.specs.declared.format.Header.{Header}
+use Rattle.format.specs.declared.Header.{Header}
 use Rattle.lists.specs.declared.check.Checked.the-variants.{Accepted}
 use Rattle.drawing.proofs.Claim.{refused-claim, fit, lent-room, lent-length, few, lent-drawable, accepted-claim}
 use borrow.Author.Needs.{needs}

@@ -2,10 +2,10 @@
 use mathlib.Core.Path.{_≡_, refl, subst}
 use native.Mathlib.Omega.{arith}
 use Rattle.numbers.specs.Sum.{total}
-use Rattle.shapes.specs.Limits.{shapeRefusal, recordRefusal}
+use Rattle.limits.specs.Limits.{shapeRefusal, recordRefusal}
 use Rattle.shapes.specs.declared.Record.{Record}
-use Rattle.shapes.proofs.Limits.{record-shape}
-use Rattle.lists.specs.Drawing.{drawingOf}
+use Rattle.limits.proofs.Limits.{record-shape}
+use Rattle.settings.specs.Drawing.{drawingOf}
 use Rattle.drawing.specs.inner.Walk.{settingsOf, shapesPage}
 use Rattle.drawing.proofs.Records.{shape-drawn}
 use borrow.Author.Needs.{needs}

@@ -2,17 +2,17 @@
 use mathlib.Core.Path.{_≡_}
 use mathlib.Core.List.{List, [], _∷_}
 use Prim.Native.Nat.{ℕ, _*_, _%_, _/_, _≤_, _<_}
-use Rattle.shapes.specs.Limits.{shapeRefusal}
+use Rattle.limits.specs.Limits.{shapeRefusal}
 use Rattle.shapes.specs.declared.Basis.{Basis}
 use Rattle.shapes.specs.declared.Clip.{Clip}
 use Rattle.page.specs.Page.{over}
 use Rattle.lists.specs.inner.Walk.{playersIn, Walkable}
 use Rattle.bound.specs.Exact.{byteAfter}
-use Rattle.draw.specs.Touch.{pageAfter}
-use Rattle.lists.specs.Drawing.{Drawing}
+use Rattle.touches.specs.Touch.{pageAfter}
+use Rattle.settings.specs.Drawing.{Drawing}
 use Rattle.drawing.specs.Touches.{touchesAt}
 use Rattle.drawing.specs.Counts.{shapesCount, playerCounts}
-use Rattle.lists.specs.declared.settings.Settings.{Settings}
+use Rattle.settings.specs.declared.Settings.{Settings}
 
 abbrev pub settingsOf : Clip → ℕ → ℕ → Settings
 settingsOf c v p = record { clip = c; level = v; player = p }

@@ -5,7 +5,7 @@ use native.Mathlib.Omega.{arith}
 use lib.ListN.{length}
 use Rattle.lights.specs.inner.Palette.{lightsIn}
 use Rattle.page.specs.inner.Ink.{inkOf}
-use Rattle.lines.specs.inner.Stroke.{Extended}
+use Rattle.steps.specs.inner.Stroke.{Extended}
 use Rattle.lines.proofs.Walk.{extended-none, extended-join, first-fits, walk-begins, steppable, walked, none-drawn}
 use Rattle.lines.proofs.draw_clipped.Statement.{statement}
 use Rattle.lines.proofs.draw_clipped.Tie as tie

@@ -4,8 +4,8 @@ use Prim.Native.Nat.{_≤_}
 use native.Mathlib.Omega.{arith}
 use lib.ListN.{length}
 use Rattle.coverage.proofs.Pixel.{whole-drawn}
-use Rattle.lines.specs.inner.Stroke.{Prepared}
-use Rattle.lines.proofs.Fits.{whole-fits, along-most, rows-fit, part-fits}
+use Rattle.steps.specs.inner.Stroke.{Prepared}
+use Rattle.columns.proofs.Fits.{whole-fits, along-most, rows-fit, part-fits}
 use Rattle.lines.proofs.Walk.{drawable, three-parts}
 use borrow.Author.Needs.{needs}
 use Rattle.lines.proofs.draw_columns.Statement.{statement}

@@ -1,7 +1,7 @@
 -- The clipped line is its strip in the columns of `walk_of`, which has nothing where they are none.
 use mathlib.Core.Path.{sym, _∙_}
 use Rattle.page.proofs.Drawn.{drawn-none, drawn-ext}
-use Rattle.lines.proofs.Strip.{strip-none}
+use Rattle.columns.proofs.Strip.{strip-none}
 use borrow.Author.Needs.{needs}
 use Rattle.lines.proofs.draw_line.Statement.{statement}
 use Rattle.lines.proofs.draw_line.Tie as tie

@@ -5,12 +5,12 @@ use mathlib.Core.List.{List, []}
 use Prim.Native.Nat.{ℕ, suc, _≤_}
 use lib.ListN.{length, drop}
 use lib.Dec.{eqb}
-use Rattle.shapes.specs.Limits.{basisRefusal}
+use Rattle.limits.specs.Limits.{basisRefusal}
 use Rattle.shapes.specs.declared.Basis.{Basis}
 use Rattle.shapes.specs.declared.Record.{Record}
-use Rattle.lists.specs.Format.{headerSize, listMost}
+use Rattle.format.specs.Format.{headerSize, listMost}
 use Rattle.lists.specs.List.{Records, accepted, refused, recordsFrom}
-use Rattle.lists.specs.Drawing.{Drawing, drawings}
+use Rattle.settings.specs.Drawing.{Drawing, drawings}
 
 unfoldable pub recordsIn : Records → List Record
 recordsIn (accepted rs) = rs

@@ -3,8 +3,8 @@ use mathlib.Core.Path.{sym, _∙_}
 use native.Mathlib.Omega.{arith}
 use borrow.Author.Needs.{needs}
 use Rattle.numbers.proofs.Coordinate.{in-range}
-use Rattle.shapes.proofs.Limits.{point-kept}
-use Rattle.shapes.proofs.Triangles.{triangle-lawful}
+use Rattle.limits.proofs.Limits.{point-kept}
+use Rattle.limits.proofs.Triangles.{triangle-lawful}
 use Rattle.sides.proofs.Placed.{cover-placed, whole-placed, near-placed}
 use Rattle.sides.proofs.triangle_cover.Statement.{statement}
 use Rattle.sides.proofs.triangle_cover.Tie as tie

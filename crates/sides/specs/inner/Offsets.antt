@@ -5,7 +5,7 @@ use lib.IntN.{ℤ, pos, subℕ}
 use Rattle.numbers.specs.inner.Order.{dist}
 use Rattle.numbers.specs.inner.Offset.{offsetMost}
 use Rattle.edges.specs.inner.Strip.{wholeMost}
-use Rattle.shapes.specs.Limits.{triangleMost}
+use Rattle.limits.specs.Limits.{triangleMost}
 use Rattle.shapes.specs.declared.Corners.{Corners}
 use Rattle.sides.specs.Triangle.{Corner, shareN, sideN, sideD, coverN, coverD}
 

@@ -6,8 +6,8 @@ use denote.Ref.{now}
 use borrow.Author.Needs.{needs}
 use Rattle.lists.proofs.Accepted.{AcceptedAs, checked-accepted}
 use Rattle.lists.proofs.Walkable.{list-walkable}
-use Rattle.squeeze.proofs.Answers.{refused-claim, accepted-claim}
-use Rattle.squeeze.proofs.Keeps.{keeps-by}
+use Rattle.squeezed.proofs.Answers.{refused-claim, accepted-claim}
+use Rattle.squeezed.proofs.Keeps.{keeps-by}
 use Rattle.squeeze.proofs.squeeze.Statement.{statement}
 use Rattle.squeeze.proofs.squeeze.Tie as tie
 

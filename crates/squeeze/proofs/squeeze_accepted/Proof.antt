@@ -4,8 +4,8 @@ use borrow.Author.Needs.{needs}
 use borrow.Author.Tests.{ltb-true, ltb-false}
 use denote.Ref.{now}
 use lib.ListN.{length}
-use Rattle.lists.specs.Format.{basisOf}
-use Rattle.lists.proofs.Writes.{header-length}
+use Rattle.format.specs.Format.{basisOf}
+use Rattle.records.proofs.Writes.{header-length}
 use Rattle.squeeze.specs.inner.Walk.{Squeezable}
 use Rattle.squeeze.proofs.Answers.{no-room, room-enough}
 use Rattle.squeeze.proofs.squeeze_accepted.Statement.{statement}

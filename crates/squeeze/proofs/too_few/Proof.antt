@@ -5,9 +5,10 @@ use native.Mathlib.Omega.{arith}
 use borrow.Author.Needs.{needs}
 use borrow.Author.Tests.{le-ltb}
 use denote.Ref.{now}
-use Rattle.lists.specs.Format.{headerSize}
-use Rattle.squeeze.specs.inner.Walk.{sizeOf, keptOf}
-use Rattle.squeeze.proofs.Shorter.{kept-few}
+use Rattle.format.specs.Format.{headerSize}
+use Rattle.squeezed.specs.inner.Size.{sizeOf}
+use Rattle.squeeze.specs.inner.Walk.{keptOf}
+use Rattle.squeezed.proofs.Shorter.{kept-few}
 use Rattle.squeeze.proofs.too_few.Statement.{statement}
 use Rattle.squeeze.proofs.too_few.Tie as tie
 

@@ -7,15 +7,12 @@ use lib.Dec.{eqb}
 use lib.ListN.{length}
 use Rattle.shapes.specs.declared.Basis.{Basis}
 use Rattle.shapes.specs.declared.Record.{Record}
-use Rattle.lists.specs.Format.{headerSize}
-use Rattle.lists.specs.Settings.{start}
-use Rattle.lists.specs.Write.{putAt}
+use Rattle.format.specs.Format.{headerSize}
+use Rattle.settings.specs.Settings.{start}
+use Rattle.records.specs.Write.{putAt}
 use Rattle.lists.specs.inner.Walk.{listDrawings, Walkable}
-use Rattle.squeeze.specs.Squeeze.{keptFrom, allBytes}
-
--- how many bytes some records have
-abbrev pub sizeOf : List Record → ℕ
-sizeOf rs = length (allBytes rs)
+use Rattle.squeezed.specs.Squeeze.{keptFrom}
+use Rattle.squeezed.specs.inner.Size.{sizeOf}
 
 -- the records that are kept of the list s
 abbrev pub keptOf : Basis → List ℕ → List Record

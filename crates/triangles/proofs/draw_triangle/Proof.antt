@@ -6,7 +6,7 @@ use native.Mathlib.Omega.{arith}
 use borrow.Author.Needs.{needs}
 use Rattle.page.specs.inner.Paint.{Lawful}
 use Rattle.page.proofs.Drawn.{drawn-length, drawn-count}
-use Rattle.shapes.proofs.Triangles.{LawfulTriangle, triangle-lawful}
+use Rattle.limits.proofs.Triangles.{LawfulTriangle, triangle-lawful}
 use Rattle.sides.specs.inner.Offsets.{offsetN, offsetD}
 use Rattle.sides.proofs.Placed.{near-placed}
 use Rattle.triangles.specs.inner.Row.{Between}

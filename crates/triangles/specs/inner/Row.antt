@@ -5,7 +5,8 @@ use lib.IntN.{pos}
 use Rattle.numbers.specs.inner.Offset.{origin}
 use Rattle.numbers.specs.inner.Order.{dist}
 use Rattle.sides.specs.inner.Offsets.{at, rowN, rowD}
-use Rattle.lights.specs.inner.Palette.{lightsIn, Palette, Scaled}
+use Rattle.lights.specs.inner.Palette.{lightsIn, Palette}
+use Rattle.blending.specs.inner.Scale.{Scaled}
 use Rattle.page.specs.inner.Ink.{inkOf}
 use Rattle.page.specs.inner.Paint.{clipped, Lawful, Drawn}
 use Rattle.page.specs.declared.View.{View}

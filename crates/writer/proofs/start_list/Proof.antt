@@ -45,15 +45,15 @@ use denote.Signature.{plain}
 use denote.Signature.Struct.{makes}
 use Rattle.writer.specs.declared.Writer.{Writer}
 use Rattle.shapes.specs.declared.Record.{Record}
-use Rattle.lists.specs.declared.format.Header.{Header}
-use Rattle.lists.specs.Write.{heldBy, headerList}
-use Rattle.lists.proofs.Writes.{header-length, record-length}
+use Rattle.format.specs.declared.Header.{Header}
+use Rattle.records.specs.Write.{heldBy, headerList}
+use Rattle.records.proofs.Writes.{header-length, record-length}
 use Rattle.writer.specs.declared.Started.{Started}
 use Rattle.writer.specs.Writer.{headed, recorded, headerFirst, recordSecond, startedList}
 use Rattle.writer.proofs.Writer as T
 use Rattle.writer.proofs.Writer.Laws as T′
-use Rattle.lists.proofs.format.Header as HE
-use Rattle.lists.proofs.format.Header.Laws as HE′
+use Rattle.format.proofs.Header as HE
+use Rattle.format.proofs.Header.Laws as HE′
 use Rattle.shapes.proofs.Record as E
 use Rattle.shapes.proofs.Record.Laws as E′
 use Rattle.writer.proofs.Started as P

@@ -7,12 +7,12 @@ use denote.Triple.Table.{entered, cited}
 use mathlib.Core.List.{List}
 use Prim.Native.Nat.{ℕ}
 use Rattle.shapes.specs.declared.Basis.{Basis}
-use Rattle.lists.proofs.format.Header as E
-use Rattle.lists.proofs.format.Header.Laws as E′
-use Rattle.lists.specs.declared.format.Header.{Header}
-use Rattle.lists.specs.Write.{headerWritten, headerList}
-use Rattle.lists.proofs.write.write_header.Symbol as covered
-use Rattle.lists.proofs.write.write_header.Met as covered-thm
+use Rattle.format.proofs.Header as E
+use Rattle.format.proofs.Header.Laws as E′
+use Rattle.format.specs.declared.Header.{Header}
+use Rattle.records.specs.Write.{headerWritten, headerList}
+use Rattle.records.proofs.write.write_header.Symbol as covered
+use Rattle.records.proofs.write.write_header.Met as covered-thm
 use Rattle.writer.proofs.Thin.{Covered, thin-meets}
 use Rattle.writer.proofs.write_header.Key as key
 use Rattle.writer.proofs.write_header as write-header
@@ -30,4 +30,4 @@ write-header-spec 𝓤 H 𝓜 𝓖 𝓡 =
     (λ y is. L.lawful E.the-type E′.the-laws 𝓤 H (𝓖 .A) (givenOf 𝓤 H 𝓜 𝓖) .typed y _ is .0) (λ κs x f. refl)
     (tablesOf 𝓤 H 𝓜 (tables 𝓤 H 𝓜 𝓡 code.env))
     (cited 𝓤 H (Covered E.the-row headerWritten (λ (l : List ℕ) (place : ℕ) (b : Basis) (d : Header). headerList l d) 𝓤 H
-    (𝓖 .A)) 𝓜 𝓡 code.env covered.name covered.routine code.calls-lists·write·write-header (covered-thm.met 𝓤 H 𝓜 𝓖 𝓡)))
+    (𝓖 .A)) 𝓜 𝓡 code.env covered.name covered.routine code.calls-records·write·write-header (covered-thm.met 𝓤 H 𝓜 𝓖 𝓡)))

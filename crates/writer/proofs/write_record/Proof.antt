@@ -6,9 +6,9 @@ use denote.Triple.Spec.{tripleOf}
 use denote.Triple.Table.{entered, cited}
 use Rattle.shapes.proofs.Record as E
 use Rattle.shapes.proofs.Record.Laws as E′
-use Rattle.lists.specs.Write.{recordWritten, recordList}
-use Rattle.lists.proofs.write.write_record.Symbol as covered
-use Rattle.lists.proofs.write.write_record.Met as covered-thm
+use Rattle.records.specs.Write.{recordWritten, recordList}
+use Rattle.records.proofs.write.write_record.Symbol as covered
+use Rattle.records.proofs.write.write_record.Met as covered-thm
 use Rattle.writer.proofs.Thin.{Covered, thin-meets}
 use Rattle.writer.proofs.write_record.Key as key
 use Rattle.writer.proofs.write_record as write-record
@@ -24,5 +24,5 @@ write-record-spec 𝓤 H 𝓜 𝓖 𝓡 =
     𝓤 H (𝓖 .A) (givenOf 𝓤 H 𝓜 𝓖) (L.makes E.the-type E′.the-plain 𝓤 H (𝓖 .A))
     (λ y is. L.lawful E.the-type E′.the-laws 𝓤 H (𝓖 .A) (givenOf 𝓤 H 𝓜 𝓖) tt .typed y _ is .0) (λ κs x f. refl)
     (tablesOf 𝓤 H 𝓜 (tables 𝓤 H 𝓜 𝓡 code.env))
-    (cited 𝓤 H (Covered E.the-row recordWritten recordList 𝓤 H (𝓖 .A)) 𝓜 𝓡 code.env covered.name covered.routine code.calls-lists·write·write-record
+    (cited 𝓤 H (Covered E.the-row recordWritten recordList 𝓤 H (𝓖 .A)) 𝓜 𝓡 code.env covered.name covered.routine code.calls-records·write·write-record
     (covered-thm.met 𝓤 H 𝓜 𝓖 𝓡)))

@@ -3,8 +3,10 @@ use Prim.Native.Nat.{_+_}
 use native.Mathlib.Omega.{arith}
 use borrow.Author.Needs.{needs}
 use Rattle.page.proofs.Drawn.{drawn-count, drawn-beside}
-use Rattle.circles.specs.inner.Row.{at, betweenOn}
-use Rattle.circles.proofs.Row.{ready-after, band-from}
+use Rattle.rings.specs.inner.Heights.{at}
+use Rattle.rings.specs.inner.Placed.{betweenOn}
+use Rattle.rings.proofs.Placed.{ready-after}
+use Rattle.circles.proofs.Row.{band-from}
 use Rattle.circles.proofs.rows.draw_band.Statement.{statement}
 use Rattle.circles.proofs.rows.draw_band.Tie as tie
 

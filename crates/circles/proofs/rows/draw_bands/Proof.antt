@@ -1,7 +1,8 @@
 -- Outside its bands the row has nothing.
 use native.Mathlib.Omega.{arith}
 use Rattle.page.proofs.Drawn.{drawn-count}
-use Rattle.circles.proofs.Row.{ready-after, solid-band, left-band, right-band, solid-row, hollow-row}
+use Rattle.rings.proofs.Placed.{ready-after}
+use Rattle.circles.proofs.Row.{solid-band, left-band, right-band, solid-row, hollow-row}
 use borrow.Author.Needs.{needs}
 use Rattle.circles.proofs.rows.draw_bands.Statement.{statement}
 use Rattle.circles.proofs.rows.draw_bands.Tie as tie

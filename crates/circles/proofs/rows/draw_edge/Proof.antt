@@ -8,7 +8,8 @@ use Rattle.lights.specs.inner.Palette.{lightsIn}
 use Rattle.page.specs.inner.Ink.{inkOf}
 use Rattle.page.proofs.Paint.{row-end}
 use Rattle.page.proofs.Drawn.{drawn-stretch}
-use Rattle.circles.specs.inner.Row.{at, betweenOn}
+use Rattle.rings.specs.inner.Heights.{at}
+use Rattle.rings.specs.inner.Placed.{betweenOn}
 use borrow.Author.Needs.{needs}
 use Rattle.circles.proofs.rows.draw_edge.Statement.{statement}
 use Rattle.circles.proofs.rows.draw_edge.Tie as tie

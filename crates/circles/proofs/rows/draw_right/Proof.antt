@@ -6,8 +6,9 @@ use borrow.Author.Needs.{needs}
 use Rattle.lights.specs.inner.Palette.{lightsIn}
 use Rattle.page.specs.inner.Ink.{inkOf}
 use Rattle.page.proofs.Drawn.{drawn-count, drawn-beside, drawn-full}
-use Rattle.circles.specs.inner.Row.{at, betweenOn, RingDrawn}
-use Rattle.circles.proofs.Row.{ready-after, whole-ink}
+use Rattle.rings.specs.inner.Heights.{at}
+use Rattle.rings.specs.inner.Placed.{betweenOn, RingDrawn}
+use Rattle.rings.proofs.Placed.{ready-after, whole-ink}
 use Rattle.circles.proofs.rows.draw_right.Statement.{statement}
 use Rattle.circles.proofs.rows.draw_right.Tie as tie
 

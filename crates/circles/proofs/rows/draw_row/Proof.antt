@@ -3,8 +3,8 @@ use mathlib.Core.Path.{_∙_, sym}
 use Prim.Native.Nat.{_+_}
 use native.Mathlib.Omega.{arith}
 use Rattle.numbers.specs.inner.Offset.{origin}
-use Rattle.coverage.specs.inner.Circle.{apart}
-use Rattle.circles.specs.inner.Row.{at, Measured}
+use Rattle.chords.specs.inner.Circle.{apart}
+use Rattle.rings.specs.inner.Heights.{at, Measured}
 use Rattle.circles.proofs.Apart.{enclosed-by}
 use borrow.Author.Needs.{needs}
 use Rattle.circles.proofs.rows.draw_row.Statement.{statement}

@@ -7,8 +7,9 @@ use Rattle.page.proofs.Clip.{clip-zero, clip-rows}
 use Rattle.page.proofs.Drawn.{drawn-none, drawn-join, drawn-length, drawn-count}
 use Rattle.lights.specs.inner.Palette.{lightsIn}
 use Rattle.page.specs.inner.Ink.{inkOf}
-use Rattle.circles.specs.inner.Row.{at, RingDrawn}
-use Rattle.circles.proofs.Row.{ready-after}
+use Rattle.rings.specs.inner.Heights.{at}
+use Rattle.rings.specs.inner.Placed.{RingDrawn}
+use Rattle.rings.proofs.Placed.{ready-after}
 use Rattle.circles.proofs.rows.draw_rows.Statement.{statement}
 use Rattle.circles.proofs.rows.draw_rows.Tie as tie
 

@@ -5,7 +5,7 @@ use lib.ListN.{length}
 use borrow.Author.Needs.{needs}
 use Rattle.lights.specs.inner.Palette.{lightsIn}
 use Rattle.page.specs.inner.Ink.{inkOf}
-use Rattle.circles.specs.inner.Row.{at}
+use Rattle.rings.specs.inner.Heights.{at}
 use Rattle.circles.proofs.Row.{inStretch, in-stretch, BlendedTo, stretch-start, stretch-few, stretch-turn, stretch-end}
 use Rattle.circles.proofs.rows.edge_uneven.Statement.{statement}
 use Rattle.circles.proofs.rows.edge_uneven.Tie as tie

@@ -7,7 +7,7 @@ use native.Mathlib.Omega.{arith}
 use lib.Dec.{eqb}
 use borrow.Author.Tests.{ne-eqb}
 use Rattle.numbers.proofs.Order.{lt-or-le}
-use Rattle.greystroke.specs.Answers.{columnAsked}
+use Rattle.greystroke.specs.Shape.{columnAsked}
 use borrow.Author.Needs.{needs}
 use Rattle.greystroke.proofs.column.ask.Statement.{statement}
 use Rattle.greystroke.proofs.column.ask.Tie as tie

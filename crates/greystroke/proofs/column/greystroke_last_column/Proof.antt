@@ -1,6 +1,6 @@
 -- The library's answer in C's form.
 use mathlib.Core.Path.{_∙_, ap}
-use Rattle.greystroke.specs.Answers.{reached}
+use Rattle.answers.specs.Shape.{reached}
 use borrow.Author.Needs.{needs}
 use Rattle.greystroke.proofs.column.greystroke_last_column.Statement.{statement}
 use Rattle.greystroke.proofs.column.greystroke_last_column.Tie as tie

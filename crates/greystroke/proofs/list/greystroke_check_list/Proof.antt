@@ -2,7 +2,7 @@
 use mathlib.Core.Path.{_∙_, ap}
 use borrow.Author.Needs.{needs}
 use denote.Ref.{now}
-use Rattle.greystroke.specs.Lists.{checkAnswer}
+use Rattle.answers.specs.List.{checkAnswer}
 use Rattle.greystroke.proofs.Ceiling.{told-within}
 use Rattle.greystroke.proofs.list.greystroke_check_list.Statement.{statement}
 use Rattle.greystroke.proofs.list.greystroke_check_list.Tie as tie

@@ -1,7 +1,7 @@
 -- The library's answer in C's form, by the basis that is taken.
 use mathlib.Core.Path.{_∙_, ap}
 use borrow.Author.Needs.{needs}
-use Rattle.greystroke.specs.Lists.{readAnswer}
+use Rattle.answers.specs.Record.{readAnswer}
 use Rattle.greystroke.proofs.list.greystroke_read_record.Statement.{statement}
 use Rattle.greystroke.proofs.list.greystroke_read_record.Tie as tie
 

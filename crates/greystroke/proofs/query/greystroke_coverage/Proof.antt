@@ -1,7 +1,7 @@
 -- A known shape is asked about, and an unknown kind refused.
 use mathlib.Core.Path.{sym, _∙_}
 use mir.Facts.{toZ-ofZ}
-use Rattle.greystroke.specs.Answers.{coverageAsked}
+use Rattle.greystroke.specs.Shape.{coverageAsked}
 use borrow.Author.Needs.{needs}
 use Rattle.greystroke.proofs.query.greystroke_coverage.Statement.{statement}
 use Rattle.greystroke.proofs.query.greystroke_coverage.Tie as tie

@@ -2,9 +2,10 @@
 use mathlib.Core.Path.{_∙_, ap}
 use mir.Syntax.{w16}
 use mir.Facts.{toZ-ofZ}
-use Rattle.shapes.proofs.Limits.{kept}
-use Rattle.greystroke.specs.Taken.{coordinateOf}
-use Rattle.greystroke.specs.Answers.{answered, coverageAsked}
+use Rattle.limits.proofs.Limits.{kept}
+use Rattle.arguments.specs.Taken.{coordinateOf}
+use Rattle.answers.specs.Shape.{answered}
+use Rattle.greystroke.specs.Shape.{coverageAsked}
 use borrow.Author.Needs.{needs}
 use Rattle.greystroke.proofs.query.query.Statement.{statement}
 use Rattle.greystroke.proofs.query.query.Tie as tie

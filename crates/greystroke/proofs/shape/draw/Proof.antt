@@ -9,9 +9,9 @@ use lib.IntN.{ℤ}
 use borrow.Author.Tests.{ne-eqb}
 use Rattle.numbers.proofs.Order.{lt-or-le}
 use Rattle.shapes.specs.declared.Shape.the-variants.{Line as line, Disc as disc, Ring as ring, Triangle as triangle}
-use Rattle.greystroke.specs.Taken.{lineOf, discOf, ringOf, triangleOf, takenBy, takenOf}
-use Rattle.greystroke.specs.Answers.{shapeDrawn, pageDrawn}
-use Rattle.greystroke.specs.declared.taken.Taken.the-variants.{Known, Unknown}
+use Rattle.arguments.specs.Taken.{lineOf, discOf, ringOf, triangleOf, takenBy, takenOf}
+use Rattle.greystroke.specs.Shape.{shapeDrawn, pageDrawn}
+use Rattle.arguments.specs.declared.Taken.the-variants.{Known, Unknown}
 use borrow.Author.Needs.{needs}
 use Rattle.greystroke.proofs.shape.draw.Statement.{statement}
 use Rattle.greystroke.proofs.shape.draw.Tie as tie

@@ -1,6 +1,6 @@
 -- The library's answer in C's form.
 use mathlib.Core.Path.{_∙_, ap}
-use Rattle.greystroke.specs.Answers.{drawn}
+use Rattle.answers.specs.Shape.{drawn}
 use borrow.Author.Needs.{needs}
 use Rattle.greystroke.proofs.shape.greystroke_draw_shape.Statement.{statement}
 use Rattle.greystroke.proofs.shape.greystroke_draw_shape.Tie as tie

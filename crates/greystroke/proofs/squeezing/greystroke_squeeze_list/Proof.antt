@@ -1,7 +1,7 @@
 -- The library's answer in C's form.
 use mathlib.Core.Path.{_∙_, ap}
 use borrow.Author.Needs.{needs}
-use Rattle.greystroke.specs.Lists.{squeezeAnswered}
+use Rattle.answers.specs.List.{squeezeAnswered}
 use Rattle.greystroke.proofs.squeezing.greystroke_squeeze_list.Statement.{statement}
 use Rattle.greystroke.proofs.squeezing.greystroke_squeeze_list.Tie as tie
 

@@ -3,7 +3,7 @@ use mathlib.Core.Path.{ap, subst, _∙_}
 use Rattle.drawing.specs.Claim.{Claim}
 use Rattle.drawing.specs.declared.Outcome.{Outcome}
 use Rattle.drawing.proofs.Claim.{claimed-outcome}
-use Rattle.greystroke.specs.Whole.{listAnswered}
+use Rattle.answers.specs.List.{listAnswered}
 use borrow.Author.Needs.{needs}
 use Rattle.greystroke.proofs.whole.greystroke_draw_list.Statement.{statement}
 use Rattle.greystroke.proofs.whole.greystroke_draw_list.Tie as tie

@@ -1,7 +1,8 @@
 -- The library's answer in C's form, and its list, by the two bases that are taken.
 use mathlib.Core.Path.{_∙_, ap}
 use borrow.Author.Needs.{needs}
-use Rattle.greystroke.specs.Lists.{writeAnswer, headerPut}
+use Rattle.answers.specs.Record.{writeAnswer}
+use Rattle.greystroke.specs.Writing.{headerPut}
 use Rattle.greystroke.proofs.writing.greystroke_write_header.Statement.{statement}
 use Rattle.greystroke.proofs.writing.greystroke_write_header.Tie as tie
 

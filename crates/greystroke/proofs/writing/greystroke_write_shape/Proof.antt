@@ -1,6 +1,6 @@
 -- A known shape is written; an unknown kind is refused, and the list is as it was.
 use mathlib.Core.Path.{refl, sym, _∙_}
-use Rattle.greystroke.specs.Lists.{shapePut, afterShape}
+use Rattle.greystroke.specs.Writing.{shapePut, afterShape}
 use borrow.Author.Needs.{needs}
 use Rattle.greystroke.proofs.writing.greystroke_write_shape.Statement.{statement}
 use Rattle.greystroke.proofs.writing.greystroke_write_shape.Tie as tie

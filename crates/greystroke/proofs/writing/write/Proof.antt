@@ -1,7 +1,8 @@
 -- The library's answer in C's form, and its list, by the basis that is taken.
 use mathlib.Core.Path.{_∙_, ap}
 use borrow.Author.Needs.{needs}
-use Rattle.greystroke.specs.Lists.{writeAnswer, recordPut, afterRecord}
+use Rattle.answers.specs.Record.{writeAnswer}
+use Rattle.greystroke.specs.Writing.{recordPut, afterRecord}
 use Rattle.greystroke.proofs.writing.write.Statement.{statement}
 use Rattle.greystroke.proofs.writing.write.Tie as tie
 

@@ -4,7 +4,7 @@ use Prim.Native.Nat.{_+_, _-_, _≤_}
 use native.Mathlib.Omega.{arith}
 use Rattle.lights.specs.Lights.{lightOf}
 use Rattle.lights.specs.inner.Palette.{reachOf, Guess, Guesses}
-use Rattle.lights.proofs.Guessing.{reach-fits, guess-none, guesses-more}
+use Rattle.lights.proofs.Guesses.{reach-fits, guess-none, guesses-more}
 use borrow.Author.Needs.{needs}
 use Rattle.lights.proofs.palette.fill_guesses.Statement.{statement}
 use Rattle.lights.proofs.palette.fill_guesses.Tie as tie

@@ -4,7 +4,7 @@ use Prim.Native.Nat.{ℕ, _-_, _≤_, _<_}
 use native.Mathlib.Omega.{arith}
 use Rattle.lights.specs.Lights.{lightOf}
 use Rattle.lights.specs.inner.Palette.{reachOf, Guesses}
-use Rattle.lights.proofs.Guessing.{guesses-none, guesses-set, lights-set, palette-is, palette-lights}
+use Rattle.lights.proofs.Guesses.{guesses-none, guesses-set, lights-set, palette-is, palette-lights}
 use borrow.Author.Needs.{needs}
 use Rattle.lights.proofs.palette.fill_palette.Statement.{statement}
 use Rattle.lights.proofs.palette.fill_palette.Tie as tie

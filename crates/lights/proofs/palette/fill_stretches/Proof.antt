@@ -2,7 +2,7 @@
 use Prim.Native.Nat.{_-_, _≤_}
 use native.Mathlib.Omega.{arith}
 use Rattle.lights.specs.inner.Palette.{FilledFrom}
-use Rattle.lights.proofs.Guessing.{filled-none, filled-more}
+use Rattle.lights.proofs.Guesses.{filled-none, filled-more}
 use borrow.Author.Needs.{needs}
 use Rattle.lights.proofs.palette.fill_stretches.Statement.{statement}
 use Rattle.lights.proofs.palette.fill_stretches.Tie as tie

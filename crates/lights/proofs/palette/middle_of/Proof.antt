@@ -1,7 +1,7 @@
 -- Two lights of 16 bits each, and their sum is the middle.
 use native.Mathlib.Omega.{arith}
 use Rattle.lights.specs.Lights.{lightOf}
-use Rattle.lights.proofs.Guessing.{middle-code}
+use Rattle.lights.proofs.Neighbours.{middle-code}
 use borrow.Author.Needs.{needs}
 use Rattle.lights.proofs.palette.middle_of.Statement.{statement}
 use Rattle.lights.proofs.palette.middle_of.Tie as tie

@@ -5,7 +5,7 @@ use native.Mathlib.Omega.{arith}
 use borrow.Author.Needs.{needs}
 use lib.ListN.{length, getD, drop}
 use denote.Ref.{now}
-use Rattle.lists.specs.Format.{headerSize, kindSize, basisOf}
+use Rattle.format.specs.Format.{headerSize, kindSize, basisOf}
 use Rattle.lists.specs.List.{checkedAs, recordsFrom}
 use Rattle.lists.proofs.Walk.{Reached, reached-start, refused-here, counts-most, stands-whole, next-inside, surplus, accepted-here, next-reached}
 use Rattle.lists.proofs.check.check_records.Statement.{statement}

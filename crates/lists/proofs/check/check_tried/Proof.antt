@@ -5,10 +5,10 @@ use Prim.Native.Nat.{ℕ}
 use native.Mathlib.Omega.{arith}
 use borrow.Author.Needs.{needs}
 use denote.Ref.{now}
-use Rattle.shapes.specs.Limits.{first}
-use Rattle.lists.specs.Format.{headerAt}
+use Rattle.limits.specs.Limits.{first}
+use Rattle.format.specs.Format.{headerAt}
 use Rattle.lists.specs.List.{headerRefusal, pageTests, checkedAs}
-use Rattle.lists.proofs.Refusals.{headed, refused-first, refused-next, not-refused}
+use Rattle.lists.proofs.Headers.{headed, refused-first, refused-next, not-refused}
 use Rattle.lists.proofs.check.check_tried.Statement.{statement}
 use Rattle.lists.proofs.check.check_tried.Tie as tie
 

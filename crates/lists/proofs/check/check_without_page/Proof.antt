@@ -6,7 +6,7 @@ use native.Mathlib.Omega.{arith}
 use borrow.Author.Needs.{needs}
 use denote.Ref.{now}
 use Rattle.lists.specs.List.{headerRefusal, checkedAs}
-use Rattle.lists.proofs.Refusals.{headed, refused-first, not-refused}
+use Rattle.lists.proofs.Headers.{headed, refused-first, not-refused}
 use Rattle.lists.proofs.check.check_without_page.Statement.{statement}
 use Rattle.lists.proofs.check.check_without_page.Tie as tie
 

@@ -1,7 +1,7 @@
 -- The tests are made in the order in which `headerRefusal` has them; of two and three, the number says how many were passed.
 use borrow.Author.Needs.{needs}
 use borrow.Author.Tests.{lt-ltb, le-ltb}
-use Rattle.shapes.proofs.Limits.{tried-last}
+use Rattle.limits.proofs.Limits.{tried-last}
 use Rattle.lists.specs.List.{headerRefusal}
 use Rattle.lists.proofs.check.header_refusal.Statement.{statement}
 use Rattle.lists.proofs.check.header_refusal.Tie as tie

@@ -1,6 +1,6 @@
 -- Each element is the size of its kind.
 use borrow.Author.Needs.{needs}
-use Rattle.lists.proofs.Bytes.{each-kind}
+use Rattle.format.proofs.Bytes.{each-kind}
 use Rattle.squeeze.proofs.kinds.kind_sizes.Statement.{statement}
 use Rattle.squeeze.proofs.kinds.kind_sizes.Tie as tie
 

@@ -4,9 +4,9 @@ use native.Mathlib.Omega.{arith}
 use lib.Dec.{eqb}
 use lib.ListN.{length, length-append}
 use borrow.Author.Needs.{needs}
-use Rattle.squeeze.specs.Squeeze.{allBytes}
-use Rattle.squeeze.proofs.Changes.{clipChange, levelChange}
-use Rattle.squeeze.proofs.Sizes.{level-bytes, player-bytes, changes-bytes, size-changes}
+use Rattle.squeezed.specs.Squeeze.{allBytes}
+use Rattle.squeezed.proofs.Changes.{clipChange, levelChange}
+use Rattle.squeezed.proofs.Sizes.{level-bytes, player-bytes, changes-bytes, size-changes}
 use Rattle.squeeze.proofs.Output.{put-same, put-is, put-then}
 use Rattle.squeeze.proofs.put.put_changes.Statement.{statement}
 use Rattle.squeeze.proofs.put.put_changes.Tie as tie
@@ -24,7 +24,9 @@ put-value-requires c κs =
     let f = s .args .settings in
     let sizes = size-changes b f in
     let first = rw (q .before .before .same-clip .ensures) at (q .put-clip .ensures) in
-    omega (arith, s .pre, first .behind, put-same (omega (arith, s .pre)) first, ap length (level-bytes (eqb (b .level) (f .level)) (f .level)))
+    let level = ap length (level-bytes (eqb (b .level) (f .level)) (f .level)) in
+    let player = ap length (player-bytes (eqb (b .player) (f .player)) (f .player)) in
+    omega (arith, s .pre, first .behind, put-same (omega (arith, s .pre)) first)
 
 put-value-requires-2 : tie.Need-put-value-requires-2
 put-value-requires-2 c κs =
@@ -34,9 +36,11 @@ put-value-requires-2 c κs =
     let f = s .args .settings in
     let sizes = size-changes b f in
     let first = rw (q .before .before .same-clip .ensures) at (q .put-clip .ensures) in
-    let second = put-is (sym (level-bytes (eqb (b .level) (f .level)) (f .level))) (c .before .before .before .before .before .put-value .ensures) in
+    let second = c .before .before .before .before .before .put-value .ensures in
+    let level = ap length (level-bytes (eqb (b .level) (f .level)) (f .level)) in
+    let player = ap length (player-bytes (eqb (b .player) (f .player)) (f .player)) in
     let same = put-same (omega (arith, s .pre)) first in
-    omega (arith, s .pre, first .behind, second .behind, same, put-same (omega (arith, s .pre, first .behind)) second, ap length (player-bytes (eqb (b .player) (f .player)) (f .player)))
+    omega (arith, s .pre, first .behind, second .behind, same, put-same (omega (arith, s .pre, first .behind)) second)
 
 returns : tie.Need-returns
 returns c =

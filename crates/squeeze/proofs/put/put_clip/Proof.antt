@@ -7,8 +7,8 @@ use borrow.Author.Needs.{needs}
 use denote.Ref.{now}
 use lib.ListN.{length, length-set}
 use Rattle.shapes.specs.declared.Setting.the-variants.{Clip as clip}
-use Rattle.lists.specs.Format.{kindOf, fieldsOf}
-use Rattle.squeeze.proofs.Sizes.{change-none, change-some}
+use Rattle.format.specs.Format.{kindOf, fieldsOf}
+use Rattle.squeezed.proofs.Sizes.{change-none, change-some}
 use Rattle.squeeze.proofs.Output.{put-none, put-byte, put-same, put-is, put-then}
 use Rattle.squeeze.proofs.put.put_clip.Statement.{statement}
 use Rattle.squeeze.proofs.put.put_clip.Tie as tie

@@ -7,13 +7,13 @@ use borrow.Author.Needs.{needs}
 use denote.Ref.{now}
 use lib.ListN.{length, getD, length-set}
 use Rattle.shapes.specs.declared.Basis.{Basis}
-use Rattle.lists.specs.Format.{headerSize, listMost, kindSize}
-use Rattle.lists.specs.Settings.{start}
-use Rattle.lists.specs.declared.settings.Settings.{Settings}
+use Rattle.format.specs.Format.{headerSize, listMost, kindSize}
+use Rattle.settings.specs.Settings.{start}
+use Rattle.settings.specs.declared.Settings.{Settings}
 use Rattle.lists.proofs.Left.{left-inside, left-stands, left-whole}
-use Rattle.lists.proofs.WriteBack.{AllBytes}
+use Rattle.lists.specs.List.{AllBytes}
 use Rattle.squeeze.specs.inner.Walk.{Squeezable, isSetting}
-use Rattle.squeeze.proofs.Shorter.{kept-few}
+use Rattle.squeezed.proofs.Shorter.{kept-few}
 use Rattle.squeeze.proofs.Output.{put-same}
 use Rattle.squeeze.proofs.Walk.{kind-below, kindIn, squeezing-more, Filled, filled-start, filled-room, filled-end, filled-setting, shape-room, filled-shape}
 use Rattle.squeeze.proofs.put.put_records.Statement.{statement}

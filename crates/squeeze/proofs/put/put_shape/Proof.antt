@@ -3,7 +3,7 @@ use native.Mathlib.Omega.{arith}
 use borrow.Author.Needs.{needs}
 use denote.Ref.{now}
 use lib.ListN.{length-append}
-use Rattle.squeeze.specs.Squeeze.{changes, allBytes}
+use Rattle.squeezed.specs.Squeeze.{changes, allBytes}
 use Rattle.squeeze.proofs.Output.{put-same, put-then}
 use Rattle.squeeze.proofs.put.put_shape.Statement.{statement}
 use Rattle.squeeze.proofs.put.put_shape.Tie as tie

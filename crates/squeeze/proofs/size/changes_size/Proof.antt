@@ -3,10 +3,10 @@ use native.Mathlib.Omega.{arith}
 use mathlib.Core.Bool.{Bool, cond}
 use mathlib.Core.Path.{_≡_, ap, _∙_, sym}
 use borrow.Author.Needs.{needs}
-use Rattle.lists.specs.Format.{fieldsOf}
-use Rattle.squeeze.specs.inner.Walk.{sizeOf}
-use Rattle.squeeze.proofs.Changes.{clipChange, levelChange, playerChange}
-use Rattle.squeeze.proofs.Sizes.{change-size, size-changes}
+use Rattle.format.specs.Format.{fieldsOf}
+use Rattle.squeezed.specs.inner.Size.{sizeOf}
+use Rattle.squeezed.proofs.Changes.{clipChange, levelChange, playerChange}
+use Rattle.squeezed.proofs.Sizes.{change-size, size-changes}
 use Rattle.squeeze.proofs.size.changes_size.Statement.{statement}
 use Rattle.squeeze.proofs.size.changes_size.Tie as tie
 

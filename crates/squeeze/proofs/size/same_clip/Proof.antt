@@ -1,5 +1,5 @@
 use borrow.Author.Tests.{eq-eqb, ne-eqb}
-use Rattle.squeeze.specs.Squeeze.{sameClip}
+use Rattle.squeezed.specs.Squeeze.{sameClip}
 use Rattle.squeeze.proofs.size.same_clip.Statement.{statement}
 use Rattle.squeeze.proofs.size.same_clip.Tie as tie
 

@@ -7,14 +7,15 @@ use borrow.Author.Needs.{needs}
 use denote.Ref.{now}
 use lib.ListN.{length, getD}
 use Rattle.shapes.specs.declared.Basis.{Basis}
-use Rattle.lists.specs.Format.{headerSize, listMost, kindSize}
-use Rattle.lists.specs.Settings.{start}
+use Rattle.format.specs.Format.{headerSize, listMost, kindSize}
+use Rattle.settings.specs.Settings.{start}
 use Rattle.lists.specs.inner.Walk.{Walkable}
-use Rattle.lists.specs.declared.settings.Settings.{Settings}
+use Rattle.settings.specs.declared.Settings.{Settings}
 use Rattle.lists.proofs.Left.{left-inside, left-stands, left-whole}
-use Rattle.squeeze.specs.Squeeze.{changes}
-use Rattle.squeeze.specs.inner.Walk.{sizeOf, keptOf, isSetting}
-use Rattle.squeeze.proofs.Shorter.{kept-few}
+use Rattle.squeezed.specs.Squeeze.{changes}
+use Rattle.squeezed.specs.inner.Size.{sizeOf}
+use Rattle.squeeze.specs.inner.Walk.{keptOf, isSetting}
+use Rattle.squeezed.proofs.Shorter.{kept-few}
 use Rattle.squeeze.proofs.Walk.{kind-below, kindIn, squeezing-more, Sized, sized-start, sized-end, sized-setting, sized-room, sized-shape}
 use Rattle.squeeze.proofs.size.squeezed_size.Statement.{statement}
 use Rattle.squeeze.proofs.size.squeezed_size.Tie as tie

@@ -1,0 +1,2 @@
+-- The numbers of C as the library takes them.
+pub mod Taken

@@ -1,0 +1,4 @@
+-- Blending in light.
+pub mod Blend
+pub mod CodeBlend
+pub mod inner

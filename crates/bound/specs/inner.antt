@@ -1,2 +1,0 @@
--- What the theorem asks of the touches of a pixel.
-pub mod Sound

@@ -1,0 +1,19 @@
+-- The two arms of `smaller`: the coordinates come back from their locals as they were.
+use mir.Facts.{toZ-ofZ}
+use Rattle.ceilings.proofs.lower.Statement.{statement}
+use Rattle.ceilings.proofs.lower.Tie as tie
+
+returns : tie.Need-returns
+returns c =
+    let a = toZ-ofZ (c .before .fits .a) in
+    let b = toZ-ofZ (c .before .fits .b) in
+    rw (a, rw (a, b) at (c .if1 .taken))
+
+returns-2 : tie.Need-returns-2
+returns-2 c =
+    let a = toZ-ofZ (c .before .fits .a) in
+    let b = toZ-ofZ (c .before .fits .b) in
+    rw (b, rw (a, b) at (c .if1 .left))
+
+pub lower-spec : {M : Type 1} → statement M
+lower-spec = tie.close (tie.spec returns returns-2)

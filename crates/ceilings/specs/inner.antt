@@ -1,0 +1,2 @@
+-- What trying a record tells.
+pub mod Tried

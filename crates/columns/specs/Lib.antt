@@ -1,0 +1,2 @@
+-- Columns have no definition that an entry point cites.
+pub mod inner

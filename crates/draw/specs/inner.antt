@@ -1,2 +1,0 @@
--- What the functions within are handed.
-pub mod View

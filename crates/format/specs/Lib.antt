@@ -1,0 +1,3 @@
+-- Headers and records as bytes.
+pub mod Format
+pub mod inner

@@ -1,0 +1,2 @@
+-- How the functions within hold a record's bytes.
+pub mod Record

@@ -1,0 +1,2 @@
+-- Laws of the touched columns of a line.
+pub mod Column

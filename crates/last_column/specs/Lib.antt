@@ -1,0 +1,2 @@
+-- How far a line goes.
+pub mod Column

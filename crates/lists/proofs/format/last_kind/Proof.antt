@@ -1,8 +1,0 @@
--- The test of `lastKind`.
-use borrow.Author.Tests.{eq-eqb, ne-eqb}
-use Rattle.lists.proofs.format.last_kind.Statement.{statement}
-use Rattle.lists.proofs.format.last_kind.Tie as tie
-
-pub last-kind-spec : {M : Type 1} → statement M
-last-kind-spec =
-    tie.close (tie.spec (λ c. rw (eq-eqb _ _ (c .if1 .taken))) (λ c. rw (ne-eqb _ _ (c .if1 .left))))

@@ -1,0 +1,3 @@
+-- Laws of pixels that mirror each other.
+pub mod Mirrored
+pub mod Pair

@@ -1,0 +1,2 @@
+-- The sides of a row, and the quarters of a ring.
+pub mod Mirrored

@@ -1,0 +1,2 @@
+-- What is told of the record at the front of some bytes.
+pub mod Front

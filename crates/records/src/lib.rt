@@ -1,0 +1,3 @@
+// The reader and the writer of one record.
+pub mod read;
+pub mod write;

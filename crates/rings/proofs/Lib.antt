@@ -1,0 +1,3 @@
+-- Laws of what lies between two circles.
+pub mod Chords
+pub mod Placed

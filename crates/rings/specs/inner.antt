@@ -1,0 +1,3 @@
+-- What rings are drawn from.
+pub mod Heights
+pub mod Placed

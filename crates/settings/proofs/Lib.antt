@@ -1,0 +1,2 @@
+-- The laws of ceilings.
+pub mod Ceiling

@@ -1,0 +1,2 @@
+-- Steps have no definition that an entry point cites.
+pub mod inner

@@ -1,0 +1,2 @@
+-- A walk along a line.
+pub mod Stroke

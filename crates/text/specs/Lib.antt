@@ -1,0 +1,2 @@
+-- Numbers and pages as text.
+pub mod Text

@@ -1,0 +1,3 @@
+-- Laws of the touches of a shape.
+pub mod Touches
+pub mod Ceiling

@@ -1,0 +1,3 @@
+-- Which pixels a shape touches.
+pub mod Touch
+pub mod inner

@@ -1,0 +1,2 @@
+-- What the drawing functions are handed.
+pub mod View
