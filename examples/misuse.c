@@ -1,8 +1,7 @@
 /* Misuses every call: numbers out of their ranges and far out of 16 bits, versions that there are
  * not, kinds that are no shape, no line or not of a version, lights that do not rise, no memory at
- * all, lists cut at each byte, places past the list, too little room, registers that there are
- * not, a busy card. Each answer must tell the refusal and its place, and what was lent must be as
- * it was; what a card ignores must leave it as it was. */
+ * all, lists cut at each byte, places past the list, too little room. Each answer must tell the
+ * refusal and its place, and what was lent must be as it was. */
 #include "greystroke.h"
 
 #include <stdbool.h>
@@ -23,7 +22,7 @@ static uint8_t page[SIDE * SIDE];
 static uint8_t room[ROOM];
 static uint8_t long_list[LIST_MOST + 1];
 static uint16_t lights[GREYSTROKE_CODES];
-static unsigned long calls, ignored;
+static unsigned long calls;
 static bool wrong;
 
 static bool all_are(const uint8_t *bytes, size_t length) {
@@ -281,303 +280,6 @@ static void try_columns(void) {
     }
 }
 
-/* ---- cards ---- */
-
-static bool same_registers(struct greystroke_registers one, struct greystroke_registers other) {
-    for (size_t at = 0; at <= GREYSTROKE_CARD_REFUSAL; at++)
-        if (greystroke_card_read(one, at) != greystroke_card_read(other, at))
-            return false;
-    return greystroke_card_interrupt(one) == greystroke_card_interrupt(other);
-}
-
-/* Whether two cards tell and draw the same from here on: the line that is begun, and two more. */
-static bool same_card(struct greystroke_card one, struct greystroke_card other) {
-    uint8_t pages[2][SIDE * SIDE] = {{0}};
-    if (memcmp(one.lights, other.lights, sizeof one.lights) != 0)
-        return false;
-    for (int turn = 0; turn < 3 * SIDE; turn++) {
-        if (!same_registers(one.registers, other.registers)
-            || greystroke_card_step(&one, pages[0], sizeof pages[0])
-                != greystroke_card_step(&other, pages[1], sizeof pages[1]))
-            return false;
-        if (turn % SIDE == SIDE - 1) {
-            greystroke_card_write(&one, GREYSTROKE_CARD_COMMAND, GREYSTROKE_CARD_APPROXIMATE);
-            greystroke_card_write(&other, GREYSTROKE_CARD_COMMAND, GREYSTROKE_CARD_APPROXIMATE);
-        }
-    }
-    return memcmp(pages[0], pages[1], sizeof pages[0]) == 0;
-}
-
-static uint8_t status_of(const struct greystroke_card *card) {
-    return greystroke_card_read(card->registers, GREYSTROKE_CARD_STATUS);
-}
-
-/* `call` must leave card and page as they were. */
-#define IGNORED(card, call)                                             \
-    do {                                                                \
-        struct greystroke_card before = card;                           \
-        call;                                                           \
-        ignored++;                                                      \
-        if (!same_card(before, card) || !all_are(page, sizeof page)) {  \
-            wrong = true;                                               \
-            printf("%s: card or page has changed\n", #call);            \
-        }                                                               \
-    } while (0)
-
-/* Low byte first, as far as 16 bits go. */
-static void write_ends(struct greystroke_card *card, const int32_t ends[4]) {
-    for (size_t k = 0; k < 4; k++) {
-        greystroke_card_write(card, 2 * k, (uint8_t)ends[k]);
-        greystroke_card_write(card, 2 * k + 1, (uint8_t)((uint32_t)ends[k] >> 8));
-    }
-}
-
-/* A card for the first of the lawful lines, which lacks nothing but its command. */
-static struct greystroke_card ready_card(void) {
-    struct greystroke_card card = greystroke_card_start();
-    greystroke_card_set_size(&card, SIDE, SIDE);
-    greystroke_card_set_clip(&card, whole);
-    greystroke_card_set_lights(&card, lights, GREYSTROKE_CODES);
-    write_ends(&card, lawful[0].numbers);
-    greystroke_card_write(&card, GREYSTROKE_CARD_LEVEL, LEVEL);
-    return card;
-}
-
-static struct greystroke_card busy_card(void) {
-    struct greystroke_card card = ready_card();
-    greystroke_card_write(&card, GREYSTROKE_CARD_COMMAND, GREYSTROKE_CARD_EXACT);
-    if (status_of(&card) != GREYSTROKE_CARD_BUSY) {
-        wrong = true;
-        printf("the line was not begun\n");
-    }
-    return card;
-}
-
-/* A step of an idle card needs no page, and answers 0. */
-static void try_idle(struct greystroke_card card) {
-    uint8_t answers = 0;
-    IGNORED(card, answers |= greystroke_card_step(&card, NULL, 0));
-    IGNORED(card, answers |= greystroke_card_step(&card, page, sizeof page));
-    if (answers != 0) {
-        wrong = true;
-        printf("a step of an idle card is refused\n");
-    }
-}
-
-/* A command that the registers must tell to be refused, with the interrupt and without. */
-static void try_command(uint32_t number, struct greystroke_card card, uint8_t command) {
-    for (uint8_t enabled = 0; enabled <= 1; enabled++) {
-        greystroke_card_write(&card, GREYSTROKE_CARD_INTERRUPT, enabled);
-        greystroke_card_write(&card, GREYSTROKE_CARD_COMMAND, command);
-        uint8_t refusal = greystroke_card_read(card.registers, GREYSTROKE_CARD_REFUSAL);
-        expect("greystroke_card_write", refusal, 0, number, 0);
-        if (status_of(&card) != GREYSTROKE_CARD_REFUSED
-            || greystroke_card_read(card.registers, GREYSTROKE_CARD_COMMAND) != command
-            || greystroke_card_interrupt(card.registers) != enabled) {
-            wrong = true;
-            printf("the registers tell something else than refusal %u\n", (unsigned)number);
-        }
-        try_idle(card);
-    }
-}
-
-/* Each kind of line. */
-static void try_card(uint32_t number, struct greystroke_card card) {
-    try_command(number, card, GREYSTROKE_CARD_EXACT);
-    try_command(number, card, GREYSTROKE_CARD_APPROXIMATE);
-}
-
-static void try_commands(void) {
-    try_card(GREYSTROKE_PAGE_SIZE, greystroke_card_start());
-    for (unsigned command = 0; command <= UINT8_MAX; command++) {
-        if (command == GREYSTROKE_CARD_EXACT || command == GREYSTROKE_CARD_APPROXIMATE)
-            continue;
-        try_command(GREYSTROKE_COMMAND, ready_card(), (uint8_t)command);
-        /* before all other refusals */
-        try_command(GREYSTROKE_COMMAND, greystroke_card_start(), (uint8_t)command);
-    }
-}
-
-/* Before all that is tried after it: of the lights, of the clip, of the ends. */
-static void try_card_size(uint32_t w, uint32_t h) {
-    static const int32_t no_ends[4] = {4096, 0, 4096, 0};
-    struct greystroke_card card = ready_card();
-    greystroke_card_set_size(&card, w, h);
-    try_card(GREYSTROKE_PAGE_SIZE, card);
-    greystroke_card_set_clip(&card, no_clip);
-    greystroke_card_set_lights(&card, NULL, 0);
-    write_ends(&card, no_ends);
-    try_card(GREYSTROKE_PAGE_SIZE, card);
-}
-
-/* Before the ends. */
-static void try_card_clip(struct greystroke_clip clip) {
-    static const int32_t no_ends[4] = {4096, 0, 4096, 0};
-    struct greystroke_card card = ready_card();
-    greystroke_card_set_clip(&card, clip);
-    try_card(GREYSTROKE_CLIP, card);
-    write_ends(&card, no_ends);
-    try_card(GREYSTROKE_CLIP, card);
-}
-
-/* Unfit lights in place of fit ones: before the clip and after the size. */
-static void try_card_lights(const uint16_t *unfit, size_t length) {
-    struct greystroke_card card = ready_card();
-    greystroke_card_set_lights(&card, unfit, length);
-    try_command(GREYSTROKE_LIGHTS, card, GREYSTROKE_CARD_EXACT);
-    greystroke_card_set_clip(&card, no_clip);
-    try_command(GREYSTROKE_LIGHTS, card, GREYSTROKE_CARD_APPROXIMATE);
-    greystroke_card_set_size(&card, SIDE, 0);
-    try_command(GREYSTROKE_PAGE_SIZE, card, GREYSTROKE_CARD_EXACT);
-    card = busy_card();
-    IGNORED(card, greystroke_card_set_lights(&card, unfit, length));
-}
-
-/* Of the coordinates out of range, the first four are so in 16 bits. */
-static void try_card_ends(void) {
-    static const int32_t equal_ends[][4] = {{3, 2, 3, 2}, {-4096, 4095, -4096, 4095}, {0}};
-    struct greystroke_card card = ready_card();
-    for (size_t i = 0; i < 4; i++)
-        for (size_t k = 0; k < 4; k++) {
-            int32_t ends[4] = {1, 1, 1, 1};
-            ends[i] = no_coordinate[k];
-            write_ends(&card, ends);
-            try_card(GREYSTROKE_COORDINATE, card);
-            ends[i ^ 2] = no_coordinate[k];
-            write_ends(&card, ends);
-            try_card(GREYSTROKE_COORDINATE, card);
-        }
-    for (size_t k = 0; k < COUNT(equal_ends); k++) {
-        write_ends(&card, equal_ends[k]);
-        try_card(GREYSTROKE_EQUAL_ENDS, card);
-    }
-}
-
-/* Cut to a byte or to 16 bits, the last four would be registers. */
-static const size_t no_register[] = {13, 14, 100, 255, 65535, SIZE_MAX, 256 + 0, 256 + 9, 65536 + 8,
-    65536 + 11};
-
-/* Byte 11 takes the lowest bit of what is written. */
-static void try_interrupt(struct greystroke_card card) {
-    for (unsigned value = 0; value <= UINT8_MAX; value++) {
-        greystroke_card_write(&card, GREYSTROKE_CARD_INTERRUPT, (uint8_t)value);
-        if (greystroke_card_read(card.registers, GREYSTROKE_CARD_INTERRUPT) != value % 2) {
-            wrong = true;
-            printf("byte 11 is not the lowest bit of %u\n", value);
-        }
-    }
-}
-
-/* Writes that change nothing, and reads of registers that there are not. */
-static void try_card_registers(struct greystroke_card card) {
-    try_interrupt(card);
-    for (unsigned value = 0; value <= UINT8_MAX; value++) {
-        uint8_t byte = (uint8_t)value;
-        IGNORED(card, greystroke_card_write(&card, GREYSTROKE_CARD_STATUS, byte));
-        IGNORED(card, greystroke_card_write(&card, GREYSTROKE_CARD_REFUSAL, byte));
-        for (size_t k = 0; k < COUNT(no_register); k++)
-            IGNORED(card, greystroke_card_write(&card, no_register[k], byte));
-    }
-    for (size_t k = 0; k < COUNT(no_register); k++)
-        if (greystroke_card_read(card.registers, no_register[k]) != 0) {
-            wrong = true;
-            printf("register %zu is not 0\n", no_register[k]);
-        }
-}
-
-/* A busy card takes no write to bytes 0 to 9 and no setting. */
-static void try_busy(void) {
-    struct greystroke_card card = busy_card();
-    for (size_t at = 0; at <= GREYSTROKE_CARD_COMMAND; at++)
-        for (unsigned value = 0; value <= UINT8_MAX; value++)
-            IGNORED(card, greystroke_card_write(&card, at, (uint8_t)value));
-    IGNORED(card, greystroke_card_set_size(&card, 1, 1));
-    IGNORED(card, greystroke_card_set_size(&card, 0, UINT32_MAX));
-    IGNORED(card, greystroke_card_set_clip(&card, (struct greystroke_clip){1, 1, 2, 2}));
-    IGNORED(card, greystroke_card_set_clip(&card, no_clip));
-    uint16_t others[GREYSTROKE_CODES];
-    for (size_t k = 0; k < COUNT(others); k++)
-        others[k] = (uint16_t)(k * k + k);
-    IGNORED(card, greystroke_card_set_lights(&card, others, COUNT(others)));
-}
-
-/* Each page that is too short, before the first step and after it. */
-static void try_steps(void) {
-    struct greystroke_card card = busy_card();
-    uint8_t other[sizeof page] = {0};
-    for (int steps = 0; steps < 2; steps++) {
-        struct greystroke_card before = card;
-        for (size_t n = 0; n < sizeof page; n++)
-            expect("greystroke_card_step", greystroke_card_step(&card, page, n), 0,
-                GREYSTROKE_PAGE_TOO_SHORT, 0);
-        expect("greystroke_card_step", greystroke_card_step(&card, NULL, 0), 0,
-            GREYSTROKE_PAGE_TOO_SHORT, 0);
-        if (!same_card(before, card) || greystroke_card_step(&card, other, sizeof other) != 0) {
-            wrong = true;
-            printf("a page that is too short has changed the card\n");
-        }
-    }
-}
-
-/* A step of a card that was put together by hand: it is refused and alters nothing, or it draws
- * within the page that it is lent. */
-static uint8_t step_put_together(struct greystroke_card *card) {
-    uint8_t bytes[3 * sizeof page];
-    struct greystroke_card before = *card;
-    memset(bytes, BYTE, sizeof bytes);
-    uint8_t refusal = greystroke_card_step(card, bytes + sizeof page, sizeof page);
-    bool kept = same_card(before, *card) && all_are(bytes, sizeof bytes);
-    if ((refusal != 0 && !kept) || !all_are(bytes, sizeof page)
-        || !all_are(bytes + 2 * sizeof page, sizeof page)) {
-        wrong = true;
-        printf("a card put together by hand: refusal %d, and memory has changed\n", refusal);
-    }
-    return refusal;
-}
-
-/* A busy card with some bytes of another value. With its own bytes again it goes on as before,
- * unless the step was taken. */
-static void try_other_bytes(size_t at, size_t width, int value) {
-    const struct greystroke_card busy = busy_card();
-    struct greystroke_card card = busy;
-    memset((uint8_t *)&card + at, value, width);
-    if (step_put_together(&card) == 0)
-        return;
-    memcpy((uint8_t *)&card + at, (const uint8_t *)&busy + at, width);
-    if (!same_card(busy, card)) {
-        wrong = true;
-        printf("a card with %zu bytes of %d at %zu has changed\n", width, value, at);
-    }
-}
-
-static void try_put_together(void) {
-    static const int values[] = {0, 1, 2, 4, 127, 128, 255};
-    struct greystroke_card card;
-    for (int value = 0; value <= UINT8_MAX; value++) {
-        memset(&card, value, sizeof card);
-        step_put_together(&card);
-    }
-    for (size_t at = 0; at < sizeof card; at++)
-        for (size_t k = 0; k < COUNT(values); k++)
-            for (size_t width = 1; width <= 2 && at + width <= sizeof card; width++)
-                try_other_bytes(at, width, values[k]);
-}
-
-static void try_cards(void) {
-    struct greystroke_card refused = ready_card();
-    greystroke_card_write(&refused, GREYSTROKE_CARD_COMMAND, 0);
-    try_commands();
-    try_card_ends();
-    try_idle(greystroke_card_start());
-    try_idle(ready_card());
-    try_card_registers(greystroke_card_start());
-    try_card_registers(refused);
-    try_card_registers(busy_card());
-    try_busy();
-    try_steps();
-    try_put_together();
-}
-
 /* ---- pages ---- */
 
 /* A version, W and H in each call that takes them, before anything else is looked at. */
@@ -602,7 +304,6 @@ static void try_basis(uint32_t number, struct greystroke_basis basis) {
 }
 
 static void try_size(uint32_t w, uint32_t h) {
-    try_card_size(w, h);
     REFUSED(draw, GREYSTROKE_PAGE_SIZE, 0, draw_shape(page, sizeof page, w, h, whole, lawful[2]));
     REFUSED(column, GREYSTROKE_PAGE_SIZE, 0, greystroke_last_column(w, h, whole, lawful[0]));
     for (uint32_t version = 1; version <= 2; version++)
@@ -621,7 +322,6 @@ static void try_versions(void) {
 }
 
 static void try_clip(struct greystroke_clip clip) {
-    try_card_clip(clip);
     REFUSED(draw, GREYSTROKE_CLIP, 0, draw_shape(page, sizeof page, SIDE, SIDE, clip, lawful[2]));
     REFUSED(column, GREYSTROKE_CLIP, 0, greystroke_last_column(SIDE, SIDE, clip, lawful[0]));
     WRITE_REFUSED(GREYSTROKE_CLIP, 10, basis_2,
@@ -844,7 +544,6 @@ static void try_list_lights(const uint16_t *unfit, size_t length) {
 
 static void try_unfit(const uint16_t *unfit, size_t length) {
     try_lights(unfit, length);
-    try_card_lights(unfit, length);
     try_list_lights(unfit, length);
 }
 
@@ -1003,27 +702,6 @@ static void expect_squeezed(size_t room_length) {
     memset(room, BYTE, sizeof room);
 }
 
-/* As many steps as the line has columns leave the page of the whole line. */
-static void expect_line(uint8_t command, struct greystroke_shape line) {
-    uint8_t stepped[sizeof page] = {0}, drawn[sizeof page] = {0};
-    struct greystroke_card card = ready_card();
-    draw_shape(drawn, sizeof drawn, SIDE, SIDE, whole, line);
-    write_ends(&card, line.numbers);
-    greystroke_card_write(&card, GREYSTROKE_CARD_INTERRUPT, UINT8_MAX);
-    greystroke_card_write(&card, GREYSTROKE_CARD_COMMAND, command);
-    int steps = 0;
-    while (steps < SIDE && greystroke_card_interrupt(card.registers) == 0) {
-        greystroke_card_step(&card, stepped, sizeof stepped);
-        steps++;
-    }
-    if (steps != 4 || status_of(&card) != GREYSTROKE_CARD_DONE
-        || memcmp(stepped, drawn, sizeof drawn) != 0) {
-        wrong = true;
-        printf("the line was not drawn by steps: %d\n", steps);
-    }
-    try_idle(card);
-}
-
 /* What is lawful is taken. */
 static void try_lawful(void) {
     static const struct greystroke_clip corner = {6, 6, SIDE, SIDE};
@@ -1033,8 +711,6 @@ static void try_lawful(void) {
         expect_column(greystroke_last_column(SIDE, SIDE, whole, lawful[s]), 1, 3);
         expect_column(greystroke_last_column(SIDE, SIDE, corner, lawful[s]), 0, 0);
     }
-    expect_line(GREYSTROKE_CARD_EXACT, greystroke_exact_line(1, 1, 5, 4));
-    expect_line(GREYSTROKE_CARD_APPROXIMATE, greystroke_approximate_line(1, 1, 5, 4));
     for (int32_t radius = 2; radius <= 1023; radius++) {
         expect_whole(greystroke_disc(4, 4, radius));
         expect_whole(greystroke_big_disc(4, 4, radius));
@@ -1075,7 +751,6 @@ int main(void) {
     try_pages();
     try_versions();
     try_players();
-    try_cards();
     try_places();
     try_lengths();
     try_rooms();
@@ -1083,6 +758,6 @@ int main(void) {
     try_bytes();
     try_records();
     try_lawful();
-    printf("misuse: %lu calls refused, %lu ignored\n", calls, ignored);
+    printf("misuse: %lu calls refused\n", calls);
     return wrong ? 1 : 0;
 }

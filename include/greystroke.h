@@ -4,12 +4,11 @@
  * and so on are clauses of docs/RULES.md.
  *
  * Memory. A page, a list and lights are each lent as their first element and their length; a
- * length of 0 may come with any pointer, NULL too. A card is lent as a pointer to it, never NULL.
- * Lights and cards are aligned as uint16_t. While a call runs, nothing else may write what it was
- * lent, nor read what it was lent to write. A page may overlap neither a list nor lights, a card
- * neither a page nor lights, and a squeezed list not the list that it is made from. No call keeps
- * what it was lent, and none has a state of its own: calls may run side by side, and share what
- * they only read.
+ * length of 0 may come with any pointer, NULL too. Lights are aligned as uint16_t. While a call
+ * runs, nothing else may write what it was lent, nor read what it was lent to write. A page may
+ * overlap neither a list nor lights, and a squeezed list not the list that it is made from. No call
+ * keeps what it was lent, and none has a state of its own: calls may run side by side, and share
+ * what they only read.
  *
  * A page of W by H has pixel (x, y) at byte y * W + x (R1.2). It may be longer: bytes past W * H
  * are never written. A byte of a page is a code.
@@ -28,8 +27,7 @@
  * and greystroke_squeeze_list, 0 for every other call, and 0 where nothing is refused. After a
  * refusal all that was lent is as it was (R8.1), and the further fields are 0, but for what a
  * writer holds. Where several refusals apply, the first in the order that is given for the call is
- * told. A card tells the refusal of a command in its registers, and a step answers its refusal
- * alone (R11). */
+ * told. */
 #ifndef GREYSTROKE_H
 #define GREYSTROKE_H
 
@@ -69,8 +67,7 @@ enum greystroke_refusal {
     GREYSTROKE_RADIUS_TOO_LARGE = 33, /* a radius above 1,023, or above 255 in a record of kind 5
                                          or 6, which has one byte for it */
     GREYSTROKE_TRIANGLE_SIZE = 34,    /* a triangle more than 127 wide or more than 127 high */
-    GREYSTROKE_STRAIGHT_CORNERS = 35, /* a triangle whose corners are on one straight line */
-    GREYSTROKE_COMMAND = 36           /* a command of a card other than 1 or 2 */
+    GREYSTROKE_STRAIGHT_CORNERS = 35  /* a triangle whose corners are on one straight line */
 };
 
 /* ---- shapes and clips ---- */
@@ -360,103 +357,6 @@ struct greystroke_write_answer greystroke_write_player(
 struct greystroke_write_answer greystroke_write_shape(
     uint8_t *list, size_t list_length, size_t place, struct greystroke_basis basis,
     struct greystroke_shape shape);
-
-/* ---- a drawing card (R11) ----
- * The drawing of a line as a device: the line is written to registers, a command begins it, and
- * each step draws one column of it. A card is plain memory of the caller's, which
- * greystroke_card_start makes and which may be copied at any time; calls alter no card but the one
- * that they are lent. A card that was put together otherwise does no harm: where its command would
- * be refused, a step is refused too and alters nothing.
- *
- * A card is busy from an accepted command until the last step of its line, and idle at all other
- * times. Everything is set while it is idle: while it is busy, every write but that to byte 11 and
- * every setting is ignored. */
-
-/* The bytes of a card. Each end has two coordinates, signed, two bytes each, low byte first. */
-enum greystroke_card_register {
-    GREYSTROKE_CARD_X0 = 0,
-    GREYSTROKE_CARD_Y0 = 2,
-    GREYSTROKE_CARD_X1 = 4,
-    GREYSTROKE_CARD_Y1 = 6,
-    GREYSTROKE_CARD_LEVEL = 8,
-    GREYSTROKE_CARD_COMMAND = 9,
-    GREYSTROKE_CARD_STATUS = 10,    /* read only: 0, or one of greystroke_card_status */
-    GREYSTROKE_CARD_INTERRUPT = 11, /* 1 enables the interrupt, 0 disables it */
-    GREYSTROKE_CARD_REFUSAL = 12    /* read only: why the last command was refused, else 0 */
-};
-
-enum greystroke_card_command {
-    GREYSTROKE_CARD_EXACT = 1,      /* the line by exact areas (R3) */
-    GREYSTROKE_CARD_APPROXIMATE = 2 /* the same by the cheaper rule (R4) */
-};
-
-/* Before the first command the status is 0; from then on one of its bits is set. */
-enum greystroke_card_status {
-    GREYSTROKE_CARD_BUSY = 1,   /* columns are left to draw */
-    GREYSTROKE_CARD_DONE = 2,   /* all columns are drawn */
-    GREYSTROKE_CARD_REFUSED = 4 /* the command was refused */
-};
-
-/* What greystroke_card_read reads from. What is held where is not laid down, so that two cards are
- * not to be compared byte by byte. */
-struct greystroke_registers {
-    uint16_t held[14];
-};
-
-struct greystroke_card {
-    struct greystroke_registers registers;
-    uint16_t lights[GREYSTROKE_CODES];
-};
-
-/* The bytes of a card, for memory that is set aside elsewhere. */
-#define GREYSTROKE_CARD_SIZE 540
-
-#ifndef __cplusplus
-_Static_assert(sizeof(struct greystroke_card) == GREYSTROKE_CARD_SIZE, "a card has 540 bytes");
-_Static_assert(_Alignof(struct greystroke_card) == 2, "a card is aligned as uint16_t");
-#elif __cplusplus >= 201103L
-static_assert(sizeof(struct greystroke_card) == GREYSTROKE_CARD_SIZE, "a card has 540 bytes");
-static_assert(alignof(struct greystroke_card) == 2, "a card is aligned as uint16_t");
-#endif
-
-/* A card whose bytes are all 0, with a page size of 0 by 0, the clip 0, 0, 0, 0 and no lights. */
-struct greystroke_card greystroke_card_start(void);
-
-/* Byte `at` of a card's registers: greystroke_card_read(card.registers, at). Above 12 it is 0. */
-uint8_t greystroke_card_read(struct greystroke_registers registers, size_t at);
-
-/* 1 where the interrupt shows: it is enabled, and the status is done or refused; else 0. */
-uint32_t greystroke_card_interrupt(struct greystroke_registers registers);
-
-/* Writes byte `at`. Bytes 0 to 9 take any value; byte 11 keeps only its lowest bit, and takes it
- * while the card is busy too. Writes to 10, 12 and above are ignored.
- * A write to byte 9 is a command, and what was set before is tried with it. Accepted, the status is
- * busy, and the first step draws column 0. Refused, it is refused, and byte 12 has the first that
- * applies, in this order: 36, 3, 32, 8, 7, 9. In either case byte 9 has the command, and done and
- * refused of the command before are gone; nothing else clears them. */
-void greystroke_card_write(struct greystroke_card *card, size_t at, uint8_t value);
-
-/* Sets the W and H of the page that steps are lent. They are kept as they are, also out of range:
- * commands are then refused by 3. */
-void greystroke_card_set_size(struct greystroke_card *card, uint32_t w, uint32_t h);
-
-/* Sets the clip. It is kept as it is, also out of order or off the page: commands are then refused
- * by 8. */
-void greystroke_card_set_clip(struct greystroke_card *card, struct greystroke_clip clip);
-
-/* Sets the lights, which the card holds from then on. Unfit ones, not 256 in number or not strictly
- * rising, leave the card without lights: until fit ones are set, commands are refused by 32. */
-void greystroke_card_set_lights(
-    struct greystroke_card *card, const uint16_t *lights, size_t lights_length);
-
-/* Draws the next column of the line on a page of the W by H that were set, and answers 0. Columns
- * are those of the longer span, counted from 0 (R2.4): one that the clip cuts off is a step too,
- * and draws nothing. After as many steps as the longer span has columns the status is done, and a
- * page that nothing else wrote meanwhile is the one that greystroke_draw_shape leaves.
- * While the card is idle nothing is drawn and 0 is answered, whatever the page.
- * Refused: 21 where the card is busy and the page is shorter than W * H; card and page are then as
- * they were. */
-uint8_t greystroke_card_step(struct greystroke_card *card, uint8_t *page, size_t page_length);
 
 #ifdef __cplusplus
 }

@@ -5,5 +5,4 @@ pub mod Blend
 pub mod EvenSteps
 pub mod Same
 pub mod Guessing
-pub mod Scale
 pub mod Examples

@@ -139,11 +139,3 @@ pub fn blend_uneven_512(palette: &[u16], u: u8, v: u8, n: u64, m: u64) -> u8
     }
     beyond_guess(palette, a, y, 1)
 }
-
-// Level v over byte u at coverage n over d, by the lights of a palette alone: the code is searched for, without a guess.
-pub fn blend_searched(palette: &[u16], u: u8, v: u8, n: u64, d: u64) -> u8
-    requires { (256 ≤ length palette.now) × Rising (light_of palette.now) × Coverage n d }
-    ensures { result ≡ blend (lights_in palette.now) u v n d }
-{
-    search(palette, doubled(palette, u, v, n, d), d)
-}

@@ -1,4 +1,3 @@
 -- What the calls of C do by their numbers.
 pub mod Shape
 pub mod Writing
-pub mod Card

@@ -6,4 +6,3 @@ pub mod list; // list.rt: one record read, a whole list checked
 pub mod squeezing; // squeezing.rt: a list squeezed into a lent output
 pub mod writing; // writing.rt: a header or one record written into a lent list
 pub mod whole; // whole.rt: a whole list on a lent page
-pub mod device; // device.rt: a drawing card

@@ -63,12 +63,12 @@ module _ (t : ℕ → ℕ) where
       go (inr k) before = let e : i ≡ l = omega arith in rw (sym e, lt-ltb 0 (t i) p) refl
 
 -- ---- a column by its number
-pub at-column : {z : ℤ} {a b : ℕ} (k : ℕ) → Diff z a b → a ≡ b + k → is_column k z ≡ true
+at-column : {z : ℤ} {a b : ℕ} (k : ℕ) → Diff z a b → a ≡ b + k → is_column k z ≡ true
 unfolding is_column
 at-column k (above {n = n} p) e = eq-eqb n k (omega arith)
 at-column k (below p) e = absurd (omega arith)
 
-pub column-at : {z : ℤ} {a b : ℕ} (k : ℕ) → Diff z a b → is_column k z ≡ true → a ≡ b + k
+column-at : {z : ℤ} {a b : ℕ} (k : ℕ) → Diff z a b → is_column k z ≡ true → a ≡ b + k
 unfolding is_column
 column-at k (above {n = n} p) e = omega (arith, eqb-true n k e)
 column-at k (below p) e = absurd (true≢false (sym e))

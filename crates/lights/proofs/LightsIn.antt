@@ -1,23 +1,19 @@
 -- The lights of a palette.
 use Rattle.std.proofs.Common.{◌≡◌, ℕ, suc, ◌+◌, ◌-◌, ◌*◌, ◌≤◌, List, length, sym, ◌∙◌, ap₂, arith, length-take, take_all, get_or-take}
 use Rattle.lights.specs.Lights.{light_of}
-use Rattle.lights.specs.inner.Fit.{Rising, Fit, EvenSteps}
+use Rattle.lights.specs.inner.Fit.{Fit, EvenSteps}
 use Rattle.lights.specs.inner.Palette.{lights_in, Palette}
 
 -- those of the codes are the palette's first numbers
 pub light_in : (p : List ℕ) (k : ℕ) → k ≤ 255 → light_of (lights_in p) k ≡ light_of p k
 light_in p k h = get_or-take 256 p k 0 (omega arith)
 
--- they are fit where those rise
-pub rising-fit : (p : List ℕ) → 256 ≤ length p → Rising (light_of p) → Fit (lights_in p)
-rising-fit p count rising =
-    record {
-      count = simp length-take (omega (arith, count));
-      rising = λ k h. rw (light_in p k (omega arith), light_in p (suc k) h) (rising k h);
-    }
-
 pub lights-fit : (p : List ℕ) → Palette p → Fit (lights_in p)
-lights-fit p q = rising-fit p q.count q.rising
+lights-fit p q =
+    record {
+      count = simp length-take (omega (arith, q.count));
+      rising = λ k h. rw (light_in p k (omega arith), light_in p (suc k) h) (q.rising k h);
+    }
 
 pub lights-even : (p : List ℕ) → Palette p → length p ≡ 256 → EvenSteps (light_of (lights_in p))
 lights-even p q e k h =

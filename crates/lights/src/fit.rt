@@ -33,8 +33,8 @@ fn count_steps(lights: &[u16], first: u16, step: u16) -> u16
     met
 }
 
-// Whether lights, of which these are the first two and the last, rise at even steps. The last tells most lights that do not without a pass.
-fn rises_evenly(lights: &[u16], first: u16, second: u16, last: u16) -> bool
+// Whether lights, of which these are the first two, rise at even steps.
+fn rises_evenly(lights: &[u16], first: u16, second: u16) -> bool
     requires { (length lights.now ≡ 256) × (first ≡ light_of lights.now 0) × (second ≡ light_of lights.now 1) }
     ensures { result ≡ true → Rising (light_of lights.now) × EvenSteps (light_of lights.now) }
 {
@@ -42,7 +42,7 @@ fn rises_evenly(lights: &[u16], first: u16, second: u16, last: u16) -> bool
         return false;
     }
     let step = second - first;
-    if (last as u64) != (first as u64) + 255 * (step as u64) {
+    if 65535 < (first as u64) + 255 * (step as u64) {
         return false;
     }
     count_steps(lights, first, step) == 256
@@ -79,7 +79,7 @@ pub fn kind_of(lights: &[u16]) -> Kind
             even: false,
         };
     }
-    if rises_evenly(lights, lights[0], lights[1], lights[255]) {
+    if rises_evenly(lights, lights[0], lights[1]) {
         return Kind {
             fit: true,
             even: true,

@@ -11,14 +11,14 @@ use Rattle.page.proofs.Drawn.{drawn-none, drawn_join}
 use Rattle.bands.specs.declared.Frame.{Frame}
 use Rattle.page.specs.declared.View.{View}
 use Rattle.columns.specs.inner.Layout.{EndInside, Between, strip}
-use Rattle.steps.specs.inner.Stroke.{At, FirstFits, Prepared, Fitted, Standing, Steppable, Inner, Extended}
+use Rattle.steps.specs.inner.Stroke.{At, FirstFits, Prepared, Standing, Steppable, Inner, Extended}
 use Rattle.lines.specs.inner.Columns.{Drawable, ColumnsDrawn}
 use Rattle.columns.specs.inner.Columns.{Inside}
 use Rattle.steps.specs.declared.Step.{Step}
 use Rattle.steps.specs.declared.Stroke.{Stroke}
 use Rattle.columns.proofs.Strip.{strip_join, strip-none}
 use Rattle.steps.proofs.Advance.{row-rises}
-use Rattle.steps.proofs.Begin.{begin_fits, begin_stands}
+use Rattle.columns.proofs.Fits.{layout_le, along-most}
 
 abbrev columns : Stroke → ℕ → ℕ → ℕ → ℕ → ℕ
 columns s p e = strip s.view s.frame p e (shape_on (line s.line))
@@ -72,25 +72,35 @@ module _ {palette : List ℕ} {s : Stroke} {p e size : ℕ} (here : Drawable pal
 
   -- where a walk begins
   pub first_fits : FirstFits s.layout s.frame p
-  first_fits = begin_fits between here.ready.fitted
+  first_fits =
+      let f = here.ready.framed in
+      let w = here.ready.lawful in
+      let o = layout_le s.view s.frame s.layout size w here.ready.laid in
+      record {
+        first = between.first;
+        last = omega (arith, between.end.last);
+        long = omega (arith, f.right);
+        short = f.short;
+        high = f.high;
+        column = along-most s.view s.frame size p w (omega (arith, between.end.right));
+        along = o.0;
+        across = o.1;
+        falls-is = here.ready.laid.falls-is;
+      }
 
   pub walk_begins : {at : Step} → At s.frame s.layout at → at.p ≡ p → at.touched ≡ 0 → Standing s at
-  walk_begins = begin_stands between
+  walk_begins is p_is zero = record { is = is; left = omega (arith, between.left); first = omega (arith, between.first); few = omega arith }
 
   -- and where it goes on
   pub steppable : {ink : ℕ → ℕ → ℕ} {at to : Step} {size' : ℕ} {l m : List ℕ} → size' ≡ size → Extended ink s at to l m → to.p < e → Steppable palette s to size'
   steppable {to = to} same x h =
-      record {
-        inked = here.ready.inked;
-        m-is = here.ready.m-is;
-        placed = record { fitted = subst (Fitted s) (sym same) here.ready.fitted; standing = x.standing; within = within-next to.p between.end h };
-      }
+      record { ready = subst (Prepared palette s) (sym same) here.ready; standing = x.standing; within = within-next to.p between.end h }
 
   -- rows only rise, so that all columns lie between the first and the last
   pub inner-at : {at : Step} → Inside s.frame s.layout p e → Standing s at → p ≤ at.p → at.p < e → Inner s at
   inner-at {at} in_clip stand h k =
       let f = s.frame in
-      let long = here.ready.fitted.framed.long in
+      let long = here.ready.framed.long in
       record {
         above_low = omega (arith, in_clip.above_low some, stand.is.g_is, row-rises f.l f.s (p + origin - f.x) (at.p + origin - f.x) long (omega arith));
         below-high = omega (arith, in_clip.below-high some, stand.is.g_is, row-rises f.l f.s (at.p + origin - f.x) (e - 1 + origin - f.x) long (omega arith));

@@ -1,8 +1,6 @@
 // What is drawn on a lent page.
 ghost use Rattle.std.specs.Prelude.{◌≡◌, ◌+◌, ◌-◌, ◌*◌, ◌≤◌, ◌<◌, length, get_or, set};
 ghost use Rattle.blending.specs.inner.Quotient.{Coverage};
-ghost use Rattle.lights.specs.Lights.{light_of};
-ghost use Rattle.lights.specs.inner.Fit.{Rising};
 ghost use Rattle.lights.specs.inner.Palette.{lights_in, Palette};
 ghost use Rattle.blending.specs.inner.Scale.{Scaled};
 ghost use Rattle.page.specs.inner.Ink.{ink_of};
@@ -36,14 +34,6 @@ fn ink_uneven(palette: &[u16], u: u8, v: u8, n: u64, d: u64, m: u64) -> u8
     blending::uneven::blend_uneven(palette, u, v, n, d, m)
 }
 
-// The same in any lights, by a search.
-fn ink_searched(palette: &[u16], u: u8, v: u8, n: u64, d: u64) -> u8
-    requires { (256 ≤ length palette.now) × Rising (light_of palette.now) × Coverage n d }
-    ensures { result ≡ dot (ink_of (lights_in palette.now) v d) n u }
-{
-    blending::uneven::blend_searched(palette, u, v, n, d)
-}
-
 // The same at coverage n over 512.
 pub fn ink_even_512(palette: &[u16], u: u8, v: u8, n: u64) -> u8
     requires { Palette palette.now × (length palette.now ≡ 256) × (n ≤ 512) }
@@ -59,7 +49,7 @@ pub fn ink_uneven_512(palette: &[u16], u: u8, v: u8, n: u64, m: u64) -> u8
     blending::uneven::blend_uneven_512(palette, u, v, n, m)
 }
 
-// Blends byte k of a page, in lights at even steps, in others, and in any by a search.
+// Blends byte k of a page, in lights at even steps, and in others.
 pub fn put_even(page: &mut [u8], palette: &[u16], k: usize, v: u8, n: u64, d: u64, m: u64)
     requires { (k < length page.old) × Palette palette.now × (length palette.now ≡ 256) × Coverage n d × Scaled palette.now d m }
     ensures { page.new ≡ set page.old k (dot (ink_of (lights_in palette.now) v d) n (get_or page.old k 0)) }
@@ -76,15 +66,7 @@ pub fn put_uneven(page: &mut [u8], palette: &[u16], k: usize, v: u8, n: u64, d: 
     page[k] = ink_uneven(palette, u, v, n, d, m);
 }
 
-pub fn put_searched(page: &mut [u8], palette: &[u16], k: usize, v: u8, n: u64, d: u64)
-    requires { (k < length page.old) × (256 ≤ length palette.now) × Rising (light_of palette.now) × Coverage n d }
-    ensures { page.new ≡ set page.old k (dot (ink_of (lights_in palette.now) v d) n (get_or page.old k 0)) }
-{
-    let u = page[k];
-    page[k] = ink_searched(palette, u, v, n, d);
-}
-
-// The same by the palette of any lights.
+// The same in any lights.
 pub fn put(page: &mut [u8], palette: &[u16], k: usize, v: u8, n: u64, d: u64, m: u64)
     requires { (k < length page.old) × Palette palette.now × Coverage n d × Scaled palette.now d m }
     ensures { page.new ≡ set page.old k (dot (ink_of (lights_in palette.now) v d) n (get_or page.old k 0)) }

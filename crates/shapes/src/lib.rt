@@ -50,7 +50,6 @@ pub enum Shape {
     Triangle(Triangle),
 }
 
-#[repr(C)]
 #[derive(Drop)]
 pub struct Clip {
     pub x0: u16,

@@ -3,4 +3,3 @@ pub mod Column
 pub mod Advance
 pub mod Dots
 pub mod Steps
-pub mod Begin

@@ -19,7 +19,7 @@ use Rattle.bands.proofs.Closed.{rest_lt, row_le}
 use Rattle.bands.proofs.Column.{Filled, filled as rows-filled}
 use Rattle.page.specs.inner.Paint.{touch, Lawful, Drawn}
 use Rattle.columns.specs.inner.Layout.{along_end, strip, Laid, shown, spotted, raised, lowered, columned, column_count, Reachable}
-use Rattle.steps.specs.inner.Stroke.{At, NextFits, Advanced, Standing, Placed, Inner, Stepped}
+use Rattle.steps.specs.inner.Stroke.{At, NextFits, Advanced, Standing, Steppable, Inner, Stepped}
 use Rattle.columns.specs.declared.layout.Layout.{Layout}
 use Rattle.steps.specs.declared.Step.{Step}
 use Rattle.steps.specs.declared.Stroke.{Stroke}
@@ -28,7 +28,7 @@ use Rattle.steps.proofs.Column.{raised_byte, lowered-byte, column-drawn}
 use Rattle.steps.proofs.Advance.{advance, byte-least, byte-most}
 use Rattle.columns.proofs.Fits.{Covers, rows_cover, whole-fits, layout_le, along-most}
 
-module _ {s : Stroke} {size : ℕ} {at : Step} (here : Placed s at size) where
+module _ {palette : List ℕ} {s : Stroke} {size : ℕ} {at : Step} (here : Steppable palette s at size) where
   abbrev f : Frame
   f = s.frame
 
@@ -36,13 +36,13 @@ module _ {s : Stroke} {size : ℕ} {at : Step} (here : Placed s at size) where
   lay = s.layout
 
   framed : Framed s.line f
-  framed = here.fitted.framed
+  framed = here.ready.framed
 
   laid : Laid s.view f lay
-  laid = here.fitted.laid
+  laid = here.ready.laid
 
   lawful : Lawful s.view size
-  lawful = here.fitted.lawful
+  lawful = here.ready.lawful
 
   stand : Standing s at
   stand = here.standing
@@ -94,10 +94,10 @@ module _ {s : Stroke} {size : ℕ} {at : Step} (here : Placed s at size) where
   rows_here = rows_of s.line.exact f.l f.s at.r
 
   filled : Filled (cut_excess f.l f.s at.r) s.d rows_here
-  filled = rw (here.fitted.d-is, is.r-is) (rows-filled s.line.exact f.l f.s i framed.long framed.short)
+  filled = rw (here.ready.d-is, is.r-is) (rows-filled s.line.exact f.l f.s i framed.long framed.short)
 
   pub covers : Covers rows_here s.d
-  covers = rows_cover filled (rw here.fitted.d-is (whole-fits s.line.exact f.l f.s framed.long framed.short (omega (arith, framed.right))))
+  covers = rows_cover filled (rw here.ready.d-is (whole-fits s.line.exact f.l f.s framed.long framed.short (omega (arith, framed.right))))
 
   -- what the next column asks
   pub advances : NextFits lay f at
@@ -114,7 +114,7 @@ module _ {s : Stroke} {size : ℕ} {at : Step} (here : Placed s at size) where
       }
 
   module _ (ink : ℕ → ℕ → ℕ) (rows : Rows) (l : List ℕ) (rows_is : rows ≡ rows_here) (same : length l ≡ size) where
-    pub column : Drawn s.view.w s.view.h ink (strip s.view f at.p (at.p + 1) (shape_on (line s.line))) l (columned lay ink rows at.k at.g l) (column_count lay rows at.g)
+    column : Drawn s.view.w s.view.h ink (strip s.view f at.p (at.p + 1) (shape_on (line s.line))) l (columned lay ink rows at.k at.g l) (column_count lay rows at.g)
     column =
         rw (rows_is, is.r-is, is.g_is)
         (column-drawn s.view s.line f lay size at.p lawful framed laid stand.left end stand.first last ink at.k l (omega (arith, lawful.room)) (rw is.g_is at is.k_is))

@@ -1,17 +1,10 @@
 // One column of a line on a lent page.
-ghost use Rattle.std.specs.Prelude.{true, ◌≡◌, ◌+◌, ◌*◌, ◌-◌, ◌^◌, ◌≤◌, ◌<◌, length};
+ghost use Rattle.std.specs.Prelude.{true, ◌≡◌, ◌+◌, ◌*◌, ◌-◌, ◌≤◌, ◌<◌, length};
 ghost use Rattle.blending.specs.inner.Quotient.{Coverage};
-ghost use Rattle.shapes.specs.declared.Shape.TheVariants.{Line as asShape};
-ghost use Rattle.coverage.specs.Coverage.{drawn_d};
-ghost use Rattle.coverage.specs.inner.OnPage.{shape_on};
-ghost use Rattle.bands.specs.inner.Frame.{Framed};
-ghost use Rattle.lights.specs.Lights.{light_of};
-ghost use Rattle.lights.specs.inner.Fit.{Fit, EvenSteps};
 ghost use Rattle.lights.specs.inner.Palette.{lights_in, Palette};
-ghost use Rattle.blending.specs.inner.Scale.{Scaled, Blendable};
+ghost use Rattle.blending.specs.inner.Scale.{Scaled};
 ghost use Rattle.page.specs.inner.Ink.{ink_of};
-ghost use Rattle.page.specs.inner.Paint.{painted, Lawful};
-ghost use Rattle.columns.specs.inner.Layout.{spotted, counted, columned, column_count, Reachable, strip, Between};
+ghost use Rattle.columns.specs.inner.Layout.{spotted, counted, columned, column_count, Reachable};
 ghost use Rattle.steps.specs.inner.Stroke.{At, FirstFits, NextFits, Advanced, Steppable, Inner, Stepped};
 
 use bands::{Frame, Rows};
@@ -100,16 +93,12 @@ fn spot(
     m: u64,
 ) -> u64
     requires origin_le_k { show ≡ true → (origin ≤ k) × (k - origin < length page.old) }
-    requires coverage { Coverage n d × Blendable palette.now d m }
+    requires palette { Palette palette.now × Coverage n d × Scaled palette.now d m }
     ensures { (page.new ≡ spotted show (ink_of (lights_in palette.now) level d) n (k - origin) page.old) × (result ≡ counted show n) × (result ≤ 1) }
 {
     if show {
         if n == 0 {
             return 0;
-        }
-        if m == 0 {
-            page::put_searched(page, palette, k - origin, level, n, d);
-            return 1;
         }
         page::put(page, palette, k - origin, level, n, d, m);
         return 1;
@@ -130,7 +119,7 @@ fn draw_column(
     m: u64,
 ) -> u64
     requires reachable { Reachable lay k g (length page.old) }
-    requires coverage { Coverage rows.upper d × Coverage rows.middle d × Coverage rows.lower d × Blendable palette.now d m }
+    requires palette { Palette palette.now × Coverage rows.upper d × Coverage rows.middle d × Coverage rows.lower d × Scaled palette.now d m }
     ensures page_after { page.new ≡ columned lay (ink_of (lights_in palette.now) level d) rows k g page.old }
     ensures value { (result ≡ column_count lay rows g) × (result ≤ 3) }
 {
@@ -271,47 +260,4 @@ pub fn step_uneven(page: &mut [u8], palette: &[u16], s: Stroke, at: Step) -> Ste
     page::put_uneven(page, palette, at.k - origin, s.level, rows.middle, s.d, s.m);
     page::put_uneven(page, palette, below - origin, s.level, rows.lower, s.d, s.m);
     advanced(lay, f, at, t + 2)
-}
-
-// The scale of the blends over d in 256 lights: where they are not at even steps, their codes are searched for.
-fn lone_scale(lights: &[u16], even: bool, d: u64) -> u64
-    requires { Fit lights.now × (even ≡ true → EvenSteps (light_of lights.now)) × (0 < d) × (d ≤ 2 ^ 30) }
-    ensures { Blendable lights.now d result }
-{
-    if even {
-        return blending::scale_of(lights, d);
-    }
-    0
-}
-
-// Draws column p of a line by itself, in 256 lights: no palette is made for one column.
-pub fn draw_alone(
-    page: &mut [u8],
-    lights: &[u16],
-    even: bool,
-    view: View,
-    line: shapes::Line,
-    f: Frame,
-    level: u8,
-    p: usize,
-)
-    requires fit { Fit lights.now × (even ≡ true → EvenSteps (light_of lights.now)) }
-    requires lawful { Lawful view (length page.old) × Framed line f × Between view f p (p + 1) }
-    ensures { page.new ≡ painted view.w (ink_of lights.now level (drawn_d (asShape line))) (strip view f p (p + 1) (shape_on (asShape line))) page.old }
-{
-    let lay = layout::layout_of(view, f);
-    let d = bands::whole_of(line.exact, f.l, f.s);
-    let at = first_step(lay, f, p);
-    let rows = bands::rows_of(line.exact, f.l, f.s, at.r, d);
-    draw_column(
-        page,
-        lights,
-        lay,
-        at.k,
-        at.g,
-        rows,
-        level,
-        d,
-        lone_scale(lights, even, d),
-    );
 }

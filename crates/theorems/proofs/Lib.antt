@@ -9,7 +9,6 @@ pub mod Bound
 pub mod Pages
 pub mod Zones
 pub mod Columns
-pub mod Cards
 pub mod Ceilings
 pub mod Lists
 pub mod Squeezing

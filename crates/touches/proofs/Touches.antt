@@ -62,7 +62,7 @@ module _ (w h : ℕ) (c : Clip) (s : Shape) (lawful : shape_refusal s ≡ 0) whe
   count-touched = sum_ext h _ _ (λ y _. sum_ext w _ _ (λ x _. count x y))
 
   module _ (lights : List ℕ) (v : ℕ) where
-    pub byte : (x y u : ℕ) → dot (ink_of lights v (drawn_d s)) (in_view (view_of w h c) (shape_on s) x y) u ≡ shape_byte lights c v s x y u
+    byte : (x y u : ℕ) → dot (ink_of lights v (drawn_d s)) (in_view (view_of w h c) (shape_on s) x y) u ≡ shape_byte lights c v s x y u
     unfolding dot clipped shape_byte touched keeps
     byte x y u =
         rw (touched-drawn x y) (go (leb c.x0 x && ltb x c.x1 && leb c.y0 y && ltb y c.y1))

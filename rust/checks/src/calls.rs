@@ -16,7 +16,6 @@ pub fn answer(line: &str) -> String {
         }),
         "ceilings" => rows::ceilings(call, library::check_without_page),
         "squeezes" => rows::squeezes(call, library::squeeze_list),
-        "cards" => rows::cards::<greystroke::Card>(call),
         _ => format!("no answers for {table}"),
     }
 }

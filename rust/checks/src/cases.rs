@@ -3,8 +3,8 @@
 use std::fs;
 use std::path::{Path, PathBuf};
 
-pub const TABLES: [&str; 9] = [
-    "queries", "columns", "draws", "writes", "reads", "lists", "ceilings", "squeezes", "cards",
+pub const TABLES: [&str; 8] = [
+    "queries", "columns", "draws", "writes", "reads", "lists", "ceilings", "squeezes",
 ];
 
 /// One row of a table: the call, and the answer right of the arrow.

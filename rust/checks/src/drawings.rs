@@ -10,7 +10,7 @@ use crate::strokes::{
 use reference::page::page_length;
 use reference::shape::{Clip, Disc, Line, Ring, Shape, Triangle};
 
-pub(crate) const UNLAWFUL_SIDES: [u16; 3] = [0, 1025, u16::MAX];
+const UNLAWFUL_SIDES: [u16; 3] = [0, 1025, u16::MAX];
 /// The reference asks every pixel of the clip, so that a clip is kept small on any page.
 pub(crate) const LONGEST_CLIP: i64 = 24;
 

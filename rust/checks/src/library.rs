@@ -2,7 +2,6 @@
 //!
 //! Fit lights are tried once and lent as such; unfit ones are lent raw, for the library to refuse.
 
-use crate::cards::AnyCard;
 use crate::notation::Writable;
 use crate::rows::{ShapeCall, Writing};
 use greystroke::{raw, Lights};
@@ -117,43 +116,6 @@ pub fn write(writing: &mut Writing, what: &Writable) -> Result<(), Refused> {
     };
     (writing.place, writing.basis) = (writer.place, reference_basis(writer.basis));
     outcome.map_err(without_place)
-}
-
-impl AnyCard for greystroke::Card {
-    fn start() -> Self {
-        greystroke::Card::new()
-    }
-
-    fn read(&self, at: usize) -> u8 {
-        greystroke::Card::read(self, at)
-    }
-
-    fn interrupt(&self) -> bool {
-        greystroke::Card::interrupt(self)
-    }
-
-    fn write(&mut self, at: usize, value: u8) {
-        greystroke::Card::write(self, at, value);
-    }
-
-    fn set_size(&mut self, width: u16, height: u16) {
-        greystroke::Card::set_size(self, library_size(width, height));
-    }
-
-    fn set_clip(&mut self, clip: &Clip) {
-        greystroke::Card::set_clip(self, library_clip(clip));
-    }
-
-    fn set_lights(&mut self, lights: &[u16]) {
-        match Lights::new(lights) {
-            Ok(lights) => greystroke::Card::set_lights(self, &lights),
-            Err(_) => raw::set_card_lights(self, lights),
-        }
-    }
-
-    fn step(&mut self, page: &mut [u8]) -> Result<(), Refused> {
-        greystroke::Card::step(self, page).map_err(without_place)
-    }
 }
 
 /// The refusal of a call on a whole list.

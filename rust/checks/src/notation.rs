@@ -21,7 +21,7 @@ pub fn numbers<T: FromStr, const N: usize>(text: &str) -> [T; N] {
 }
 
 /// The first word, and what follows it.
-pub(crate) fn keyword(text: &str) -> (&str, &str) {
+fn keyword(text: &str) -> (&str, &str) {
     let text = text.trim();
     text.split_once(' ').unwrap_or((text, ""))
 }

@@ -2,7 +2,6 @@
 //!
 //! The call itself is handed in, so that the reference and the library answer by the same text.
 
-use crate::cards::{AnyCard, CardAndPage};
 use crate::cases::{parse_hex, show_hex};
 use crate::lights::parse_lights;
 use crate::notation::{
@@ -151,16 +150,6 @@ pub fn squeezes(
     }
 }
 
-/// Operations and their answers, parted by semicolons.
-pub fn cards<C: AnyCard>(call: &str) -> String {
-    let mut played = CardAndPage::<C>::start();
-    let answers: Vec<String> = call
-        .split(" ; ")
-        .map(|operation| played.answer(operation))
-        .collect();
-    answers.join(" ; ")
-}
-
 /// The parts of a call, parted by colons with a blank in front: any other belongs to its word.
 fn fields<const N: usize>(call: &str) -> [&str; N] {
     let parts: Vec<&str> = call.split(" :").map(str::trim).collect();
@@ -191,7 +180,7 @@ fn show_writing(writing: &Writing) -> String {
     format!("{place} {version} {width} {height} {list}")
 }
 
-pub(crate) fn refused(refusal: &Refused, changed: bool) -> String {
+fn refused(refusal: &Refused, changed: bool) -> String {
     marked(format!("refused {}", refusal.number), changed)
 }
 

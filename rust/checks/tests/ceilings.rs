@@ -66,7 +66,7 @@ fn stored_rows_agree() {
         let found = answer(&format!("ceilings {}", row.call));
         assert_eq!(found, row.answer, "{}", row.call);
     }
-    assert_eq!(rows.len(), 202);
+    assert_eq!(rows.len(), 164);
 }
 
 /// One line, disc or ring that lies wholly on a page of 12 by 12, and whether it touches as many

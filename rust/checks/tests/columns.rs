@@ -273,5 +273,5 @@ fn stored_rows_agree() {
         let found = answer(&format!("columns {}", row.call));
         assert_eq!(found, row.answer, "{}", row.call);
     }
-    assert_eq!(rows.len(), 398);
+    assert_eq!(rows.len(), 354);
 }

@@ -409,7 +409,7 @@ fn stored_rows_agree() {
         let found = answer(&format!("draws {}", row.call));
         assert_eq!(found, row.answer, "{}", row.call);
     }
-    assert_eq!(rows.len(), 1295);
+    assert_eq!(rows.len(), 1150);
 }
 
 /// A page of one level and one shape on it, under a whole clip.

@@ -253,7 +253,7 @@ fn stored_rows_agree() {
         let found = answer(&format!("reads {}", row.call));
         assert_eq!(found.trim(), row.answer, "{}", row.call);
     }
-    assert_eq!(rows.len(), 669);
+    assert_eq!(rows.len(), 615);
 }
 
 #[test]

@@ -121,7 +121,7 @@ fn stored_rows_agree() {
         let found = answer(&format!("lists {}", row.call));
         assert_eq!(found, row.answer, "{}", row.call);
     }
-    assert_eq!(rows.len(), 868);
+    assert_eq!(rows.len(), 787);
 }
 
 #[test]

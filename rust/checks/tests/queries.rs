@@ -188,5 +188,5 @@ fn stored_rows_agree() {
         let told = format!("{}: {found} for {}", row.call, row.answer);
         assert!(texts_agree(&row.call, &found, &row.answer), "{told}");
     }
-    assert_eq!(rows.len(), 720);
+    assert_eq!(rows.len(), 679);
 }

@@ -216,7 +216,7 @@ fn stored_rows_agree() {
         let found = answer(&format!("squeezes {}", row.call));
         assert_eq!(found, row.answer, "{}", row.call);
     }
-    assert_eq!(rows.len(), 197);
+    assert_eq!(rows.len(), 127);
 }
 
 #[test]

@@ -112,7 +112,7 @@ fn stored_rows_agree() {
         let found = answer(&format!("writes {}", row.call));
         assert_eq!(found.trim(), row.answer, "{}", row.call);
     }
-    assert_eq!(rows.len(), 594);
+    assert_eq!(rows.len(), 558);
 }
 
 #[test]

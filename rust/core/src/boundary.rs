@@ -4,7 +4,6 @@
 //! fields are 0, but for those of [`WriteAnswer`].
 
 use crate::{Basis, Clip, Disc, Line, Ring, Shape, Triangle, PLAYERS};
-use std::mem::MaybeUninit;
 
 /// A shape: its kind byte in a list, and its numbers in the order of the record's fields.
 #[repr(C)]
@@ -167,24 +166,6 @@ pub struct WriteAnswer {
     pub basis: GivenBasis,
 }
 
-/// The registers of a card. What is held where is the library's affair, and which bytes lie between
-/// what is held.
-#[repr(C)]
-#[derive(Clone, Copy)]
-pub struct HeldRegisters {
-    held: [MaybeUninit<u16>; 14],
-}
-
-/// A card: its registers, then its lights.
-#[repr(C)]
-#[derive(Clone)]
-pub struct HeldCard {
-    pub registers: HeldRegisters,
-    lights: [u16; 256],
-}
-
-const _: () = assert!(size_of::<HeldCard>() == 540 && align_of::<HeldCard>() == 2);
-
 // The queries take plain numbers by value and have no precondition, so they are safe to call.
 extern "C" {
     pub fn greystroke_coverage(shape: GivenShape, x: i32, y: i32) -> CoverageAnswer;
@@ -295,26 +276,4 @@ extern "C" {
         basis: GivenBasis,
         shape: GivenShape,
     ) -> WriteAnswer;
-}
-
-// Safe to call with any registers: they are plain numbers by value.
-extern "C" {
-    pub fn greystroke_card_start() -> HeldCard;
-    pub fn greystroke_card_read(registers: HeldRegisters, at: usize) -> u8;
-    pub fn greystroke_card_interrupt(registers: HeldRegisters) -> u32;
-}
-
-// Safe to call if the card is one that nothing else reads or writes meanwhile, the page likewise,
-// and lights are a slice that nothing writes meanwhile; the card may overlap neither. Any size and
-// clip may be set, and any byte be written.
-extern "C" {
-    pub fn greystroke_card_write(card: *mut HeldCard, at: usize, value: u8);
-    pub fn greystroke_card_set_size(card: *mut HeldCard, w: u32, h: u32);
-    pub fn greystroke_card_set_clip(card: *mut HeldCard, clip: GivenClip);
-    pub fn greystroke_card_set_lights(
-        card: *mut HeldCard,
-        lights: *const u16,
-        lights_length: usize,
-    );
-    pub fn greystroke_card_step(card: *mut HeldCard, page: *mut u8, page_length: usize) -> u8;
 }

@@ -8,8 +8,7 @@
 //! makes one, [`read_record`] reads it record by record, [`check_list`] tries it whole and tells the
 //! ceiling of its touches, [`check_without_page`] does so before there is a page, [`squeeze_list`]
 //! leaves out its settings that change nothing, and [`draw_list`] draws it and counts what each
-//! player's shapes touch. A [`Card`] is the drawing of a line as a device: it is told the line
-//! through its registers and draws it column by column.
+//! player's shapes touch.
 //!
 //! ```
 //! use greystroke::{coverage, draw_shape, Clip, Fraction, Lights, Line, Refusal, Shape, Size};
@@ -26,7 +25,6 @@
 //! ```
 
 mod boundary;
-mod card;
 mod column;
 mod coverage;
 mod drawing;
@@ -38,7 +36,6 @@ mod refusal;
 mod shape;
 mod squeeze;
 
-pub use card::Card;
 pub use column::last_column;
 pub use coverage::{coverage, Fraction};
 pub use drawing::{draw_shape, Clip, Size};

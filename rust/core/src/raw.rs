@@ -2,11 +2,9 @@
 //! those that are unfit, in its order. Where lights are tried once, by [`Lights`](crate::Lights),
 //! the calls of the same names outside of this module serve.
 
-use crate::boundary::{
-    greystroke_card_set_lights, greystroke_check_list, greystroke_draw_list, greystroke_draw_shape,
-};
+use crate::boundary::{greystroke_check_list, greystroke_draw_list, greystroke_draw_shape};
 use crate::list::{accepted_call, accepted_list, checked, size_of};
-use crate::{Card, Checked, Clip, ListRefusal, Picture, Refusal, Shape, Size};
+use crate::{Checked, Clip, ListRefusal, Picture, Refusal, Shape, Size};
 
 /// What [`crate::draw_shape`] does.
 ///
@@ -93,22 +91,4 @@ pub fn check_list(list: &[u8], page_length: usize, lights: &[u16]) -> Result<Che
             lights.len(),
         )
     })
-}
-
-/// What [`Card::set_lights`] does. Unfit lights leave an idle card without lights, and the commands
-/// that follow are refused until fit ones are set.
-///
-/// ```
-/// use greystroke::{raw, Card, Lights, Refusal, Size};
-///
-/// let mut card = Card::new();
-/// card.set_size(Size { width: 4, height: 3 });
-/// card.set_lights(&Lights::codes());
-/// raw::set_card_lights(&mut card, &[9; 256]);
-/// card.write(Card::COMMAND, Card::EXACT);
-/// assert_eq!(u64::from(card.read(Card::REFUSAL)), Refusal::Lights.number());
-/// ```
-pub fn set_card_lights(card: &mut Card, lights: &[u16]) {
-    // SAFETY: the card, being borrowed alone, is apart from the lights, which are a slice.
-    unsafe { greystroke_card_set_lights(&mut card.held, lights.as_ptr(), lights.len()) }
 }

@@ -45,12 +45,10 @@ pub enum Refusal {
     TriangleSize = 34,
     /// The corners of a triangle are on one straight line.
     StraightCorners = 35,
-    /// The command of a card is neither 1 nor 2.
-    Command = 36,
 }
 
 impl Refusal {
-    const ALL: [Refusal; 20] = [
+    const ALL: [Refusal; 19] = [
         Refusal::WrongMark,
         Refusal::WrongVersion,
         Refusal::PageSize,
@@ -70,7 +68,6 @@ impl Refusal {
         Refusal::RadiusTooLarge,
         Refusal::TriangleSize,
         Refusal::StraightCorners,
-        Refusal::Command,
     ];
 
     pub fn number(self) -> u64 {
@@ -103,7 +100,6 @@ impl Refusal {
             }
             Refusal::TriangleSize => "the width or height of the triangle is above 127",
             Refusal::StraightCorners => "the corners of the triangle are on one straight line",
-            Refusal::Command => "the command of the card is neither 1 nor 2",
         }
     }
 

@@ -3,7 +3,6 @@
 //! Everything is worked out pixel by pixel in wide integers, so that each function can be read
 //! beside the paragraph it comes from. Speed is no aim.
 
-pub mod card;
 pub mod ceiling;
 pub mod column;
 pub mod coverage;

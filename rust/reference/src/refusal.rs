@@ -21,7 +21,6 @@ pub enum Refusal {
     RadiusTooLarge = 33,
     TriangleSize = 34,
     StraightCorners = 35,
-    Command = 36,
 }
 
 impl Refusal {

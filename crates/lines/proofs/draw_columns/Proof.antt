@@ -49,11 +49,7 @@ module _ (c : tie.After-inside-of) where
   ready =
       let pre = start.pre in
       let laid = c.before.before.before.layout_of.ensures in
-      record {
-        inked = pre.0;
-        m-is = c.before.scale_of.ensures;
-        fitted = record { lawful = pre.1; framed = pre.2; laid = laid; d-is = c.before.before.whole_of.ensures };
-      }
+      record { inked = pre.0; lawful = pre.1; framed = pre.2; laid = laid; d-is = c.before.before.whole_of.ensures; m-is = c.before.scale_of.ensures }
 
 draw_clipped_requires : tie.Need-draw-clipped-requires
 draw_clipped_requires c κs =

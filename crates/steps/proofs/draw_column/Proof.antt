@@ -34,20 +34,20 @@ second c = c.before.before.before.before
 spot_requires : tie.Need-spot-requires
 spot_requires c κs =
     let p = (start c).requires in
-    (λ e. rw c.byte_above.ensures.0 (p.0.upper (sym c.before.is-shown.ensures ∙ e)), (p.1.0, p.1.3))
+    (λ e. rw c.byte_above.ensures.0 (p.0.upper (sym c.before.is-shown.ensures ∙ e)), (p.1.0, p.1.1, p.1.4))
 
 spot_requires_2 : tie.Need-spot-requires-2
 spot_requires_2 c κs =
     let one = first c in
     let p = (start one.before).requires in
-    (λ e. rw one.spot.kept.0 (p.0.middle (sym c.is-shown2.ensures ∙ e)), (p.1.1, p.1.3))
+    (λ e. rw one.spot.kept.0 (p.0.middle (sym c.is-shown2.ensures ∙ e)), (p.1.0, p.1.2, p.1.4))
 
 spot_requires_3 : tie.Need-spot-requires-3
 spot_requires_3 c κs =
     let two = second c.before in
     let one = first two.before in
     let p = (start one.before).requires in
-    (λ e. rw (c.byte-below.ensures, two.spot2.kept.0, one.spot.kept.0) (p.0.lower (sym c.before.is-shown3.ensures ∙ e)), (p.1.2, p.1.3))
+    (λ e. rw (c.byte-below.ensures, two.spot2.kept.0, one.spot.kept.0) (p.0.lower (sym c.before.is-shown3.ensures ∙ e)), (p.1.0, p.1.3, p.1.4))
 
 returns : tie.Need-returns
 returns c =

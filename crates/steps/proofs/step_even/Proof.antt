@@ -7,7 +7,7 @@ use Rattle.steps.proofs.step_even.Tie as tie
 
 add_if1 : tie.Need-overflow-add-if1
 add_if1 c =
-    let fit = advances c.before.before.before.before.before.requires.0.placed in
+    let fit = advances c.before.before.before.before.before.requires.0 in
     omega (arith, fit.long, fit.short, fit.rest)
 
 pub step_even_spec : {M : Type 1} → statement M

@@ -25,49 +25,49 @@ spot_at c = let known = c.before.before in known.before.before.before
 rows_of_requires : tie.Need-rows-of-requires
 rows_of_requires c κs =
     let pre = (start c).requires in
-    let fit = advances pre.0.placed in
-    (fit.long, fit.short, fit.rest, pre.0.placed.fitted.d-is)
+    let fit = advances pre.0 in
+    (fit.long, fit.short, fit.rest, pre.0.ready.d-is)
 
 byte_above_requires : tie.Need-byte-above-requires
-byte_above_requires c κs = let r = reaches (start c.before).requires.0.placed in (r.least, r.most)
+byte_above_requires c κs = let r = reaches (start c.before).requires.0 in (r.least, r.most)
 
 byte_below_requires : tie.Need-byte-below-requires
-byte_below_requires c κs = let r = reaches (start c.before.before).requires.0.placed in (r.least, r.most)
+byte_below_requires c κs = let r = reaches (start c.before.before).requires.0 in (r.least, r.most)
 
 sub_spot : tie.Need-overflow-sub-spot-uneven
 sub_spot c =
     let pre = (start (rows_at c.before).before).requires in
-    rw c.before.before.byte_above.ensures.0 (upper-byte pre.0.placed pre.2).0
+    rw c.before.before.byte_above.ensures.0 (upper-byte pre.0 pre.2).0
 
 spot_requires : tie.Need-spot-uneven-requires
 spot_requires c κs =
     let rows = rows_at c.before in
     let pre = (start rows.before).requires in (
-      rw c.before.before.byte_above.ensures.0 (upper-byte pre.0.placed pre.2).1,
-      pre.0.inked,
+      rw c.before.before.byte_above.ensures.0 (upper-byte pre.0 pre.2).1,
+      pre.0.ready.inked,
       pre.1,
-      rw rows.rows_of_lem.ensures (covers pre.0.placed).upper,
-      pre.0.m-is,
+      rw rows.rows_of_lem.ensures (covers pre.0).upper,
+      pre.0.ready.m-is,
     )
 
 sub_put : tie.Need-overflow-sub-put-uneven
 sub_put c =
     let spot = c.before.before.before.before in
     let pre = (start (rows_at (known spot)).before).requires in
-    (middle-byte pre.0.placed pre.2).0
+    (middle-byte pre.0 pre.2).0
 
 put_requires : tie.Need-put-uneven-requires
 put_requires c κs =
     let spot = c.before.before.before.before in
     let rows = rows_at (known spot) in
     let pre = (start rows.before).requires in
-    (rw spot.spot-uneven.auto.0 (middle-byte pre.0.placed pre.2).1, pre.0.inked, pre.1, rw rows.rows_of_lem.ensures (covers pre.0.placed).middle, pre.0.m-is)
+    (rw spot.spot-uneven.auto.0 (middle-byte pre.0 pre.2).1, pre.0.ready.inked, pre.1, rw rows.rows_of_lem.ensures (covers pre.0).middle, pre.0.ready.m-is)
 
 sub_put_2 : tie.Need-overflow-sub-put-uneven-2
 sub_put_2 c =
     let below = known (spot_at c.before.before.before) in
     let pre = (start (rows_at below).before).requires in
-    rw below.byte-below.ensures (lower-byte pre.0.placed pre.2).0
+    rw below.byte-below.ensures (lower-byte pre.0 pre.2).0
 
 put_requires_2 : tie.Need-put-uneven-requires-2
 put_requires_2 c κs =
@@ -76,18 +76,18 @@ put_requires_2 c κs =
     let below = known spot in
     let rows = rows_at below in
     let pre = (start rows.before).requires in (
-      rw (below.byte-below.ensures, put.put-uneven.auto.0, spot.spot-uneven.kept.0) (lower-byte pre.0.placed pre.2).1,
-      pre.0.inked,
+      rw (below.byte-below.ensures, put.put-uneven.auto.0, spot.spot-uneven.kept.0) (lower-byte pre.0 pre.2).1,
+      pre.0.ready.inked,
       pre.1,
-      rw rows.rows_of_lem.ensures (covers pre.0.placed).lower,
-      pre.0.m-is,
+      rw rows.rows_of_lem.ensures (covers pre.0).lower,
+      pre.0.ready.m-is,
     )
 
 advanced_requires : tie.Need-advanced-requires
 advanced_requires c κs =
     let put = c.before.before.before.before in
     let spot = spot_at put.before.before in
-    (advances (start (rows_at (known spot)).before).requires.0.placed, omega (arith, spot.spot-uneven.ensures.2))
+    (advances (start (rows_at (known spot)).before).requires.0, omega (arith, spot.spot-uneven.ensures.2))
 
 returns : tie.Need-returns
 returns c =
@@ -98,7 +98,7 @@ returns c =
     let rows = (rows_at below).rows_of_lem in
     let s = start (rows_at below).before in
     let a = s.args in
-    inner_stepped s.pre.0.placed s.pre.2 (ink_of (lights_in a.palette.now) a.s.level a.s.d) spot.spot-uneven.result rows.result c.advanced.result
+    inner_stepped s.pre.0 s.pre.2 (ink_of (lights_in a.palette.now) a.s.level a.s.d) spot.spot-uneven.result rows.result c.advanced.result
     a.page.now spot.spot-uneven.last.0 put.put-uneven.new.0 put2.put-uneven2.new.0 rows.ensures refl c.advanced.ensures spot.spot-uneven.ensures.1
     (rw (← below.before.byte_above.ensures.0) spot.spot-uneven.ensures.0)
     put.put-uneven.ensures

@@ -56,18 +56,14 @@ pub record Advanced (lay : Layout) (f : Frame) (t : ℕ) (at to : Step) : Type 0
 
 -- ---- a walk
 
--- a stroke on a page of size bytes, in any ink
-pub record Fitted (s : Stroke) (size : ℕ) : Type 0 where
+-- a stroke that may be drawn by a palette on a page of size bytes
+pub record Prepared (palette : List ℕ) (s : Stroke) (size : ℕ) : Type 0 where
+  pub inked : Palette palette
   pub lawful : Lawful s.view size
   pub framed : Framed s.line s.frame
   pub laid : Laid s.view s.frame s.layout
   pub d-is : s.d ≡ whole_of s.line.exact s.frame.l s.frame.s
-
--- it may be drawn by a palette
-pub record Prepared (palette : List ℕ) (s : Stroke) (size : ℕ) : Type 0 where
-  pub inked : Palette palette
   pub m-is : Scaled palette s.d s.m
-  pub fitted : Fitted s size
 
 -- a walk stands at a column of the stroke, or after its last; three pixels a column bound its count
 pub record Standing (s : Stroke) (at : Step) : Type 0 where
@@ -76,17 +72,11 @@ pub record Standing (s : Stroke) (at : Step) : Type 0 where
   pub first : s.frame.x ≤ at.p + origin
   pub few : at.touched ≤ 3 * at.p
 
--- a walk stands at a column of the page, which has size bytes
-pub record Placed (s : Stroke) (at : Step) (size : ℕ) : Type 0 where
-  pub fitted : Fitted s size
+-- a walk may draw the column at which it stands, on a page of size bytes
+pub record Steppable (palette : List ℕ) (s : Stroke) (at : Step) (size : ℕ) : Type 0 where
+  pub ready : Prepared palette s size
   pub standing : Standing s at
   pub within : EndInside s.view s.frame (at.p + 1)
-
--- it may draw that column by a palette
-pub record Steppable (palette : List ℕ) (s : Stroke) (at : Step) (size : ℕ) : Type 0 where
-  pub inked : Palette palette
-  pub m-is : Scaled palette s.d s.m
-  pub placed : Placed s at size
 
 -- a walk stands where the clip keeps all three rows of the column
 pub record Inner (s : Stroke) (at : Step) : Type 0 where

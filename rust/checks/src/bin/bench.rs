@@ -4,14 +4,13 @@
 //!
 //! Lines: `ratio NAME VALUE`, `over_codes NAME VALUE` (the library's time over its own with lights
 //! equal to codes), `over_check NAME VALUE` (over its own for the check of the same list without a
-//! page), `over_shape NAME VALUE` (over its own for the whole line by the single-shape call) and
-//! `growth NAME SIZE NANOSECONDS`, each kind after a line with `#` that names the inputs.
+//! page) and `growth NAME SIZE NANOSECONDS`, each kind after a line with `#` that names the inputs.
 
 use checks::lights::named;
 use checks::random::Random;
 use checks::{baseline, baseline_list};
 use greystroke::{
-    check_list, check_without_page, draw_list, draw_shape, squeeze_list, Card, Checked, Clip, Disc,
+    check_list, check_without_page, draw_list, draw_shape, squeeze_list, Checked, Clip, Disc,
     Header, Lights, Line, ListRefusal, Picture, Record, Refusal, Ring, Setting, Shape, Size,
     Triangle, Writer, LATEST_VERSION, PLAYERS,
 };
@@ -29,9 +28,6 @@ const LISTED_SHAPES: usize = 1000;
 /// Radii that one byte does not hold.
 const BIG_RADII: RangeInclusive<i64> = 256..=1023;
 const LONGEST_LIST: usize = 65_536;
-/// The side of the card's page, and how many columns its line has.
-const CARD_SIDE: u16 = 256;
-const CARD_COLUMNS: u8 = 240;
 /// How often one shape is drawn between two looks at the clock.
 const REPEATS: usize = 32;
 
@@ -42,7 +38,6 @@ type DrawList = fn(&mut [u8], &Lights, &[u8]) -> Result<Picture, ListRefusal>;
 type CheckList = fn(&[u8], usize, &Lights) -> Result<Checked, ListRefusal>;
 type CheckWithoutPage = fn(&[u8]) -> Result<Checked, ListRefusal>;
 type SqueezeList = fn(&mut [u8], &[u8]) -> Result<usize, ListRefusal>;
-type OnPage<'a> = &'a dyn Fn(&mut [u8]);
 
 /// The gamma of a screen, as the tables have it.
 fn gamma() -> Lights {
@@ -592,101 +587,6 @@ fn print_squeeze_ratios() {
     print_squeezed_list("squeeze_spare", inputs, &list, list.len());
 }
 
-/// An exact line of slope one third with both ends on the card's page.
-fn card_line() -> Line {
-    Line {
-        exact: true,
-        x0: 8,
-        y0: 88,
-        x1: 8 + i16::from(CARD_COLUMNS),
-        y1: 88 + i16::from(CARD_COLUMNS / 3),
-    }
-}
-
-/// A card that is set for the line, but for its level and its command.
-fn card_for(line: Line, lights: &Lights) -> Card {
-    let mut card = Card::new();
-    card.set_size(square(CARD_SIDE));
-    card.set_clip(Clip::whole(square(CARD_SIDE)));
-    card.set_lights(lights);
-    let ends = [line.x0, line.y0, line.x1, line.y1].map(i16::to_le_bytes);
-    for (at, value) in ends.as_flattened().iter().enumerate() {
-        card.write(at, *value);
-    }
-    card
-}
-
-/// The line at so many levels, each begun by a command and drawn step by step.
-fn draw_by_steps(card: &Card, page: &mut [u8]) {
-    let mut card = card.clone();
-    for k in 0..REPEATS {
-        card.write(Card::LEVEL, (85 * k) as u8);
-        card.write(Card::COMMAND, Card::EXACT);
-        for _ in 0..CARD_COLUMNS {
-            card.step(page).expect("a page that is long enough");
-        }
-        assert_eq!(card.read(Card::STATUS), Card::DONE);
-    }
-}
-
-/// The same by the single-shape call.
-fn draw_by_calls(line: Line, lights: &Lights, page: &mut [u8]) {
-    let (size, clip) = (square(CARD_SIDE), Clip::whole(square(CARD_SIDE)));
-    for k in 0..REPEATS {
-        let shape = black_box(Shape::Line(line));
-        draw_shape(page, size, lights, clip, (85 * k) as u8, shape).expect("a lawful line");
-    }
-}
-
-/// The steps of a line in turns with the single-shape call. The ends and the lights are set before;
-/// the level and the command, two writes for 240 steps, are in the time.
-fn print_card_steps(name: &str, inputs: &str, lights: &Lights) {
-    let (line, card) = (card_line(), card_for(card_line(), lights));
-    let jobs: [OnPage; 2] = [
-        &|page: &mut [u8]| draw_by_steps(&card, page),
-        &|page: &mut [u8]| draw_by_calls(line, lights, page),
-    ];
-    assert_alike(&jobs);
-    let times = best_in_turns(&mut page_of(CARD_SIDE), &jobs);
-    let times: Vec<f64> = times
-        .iter()
-        .map(|&time| nanoseconds(time, REPEATS))
-        .collect();
-    println!(
-        "# {name}: an exact line of {CARD_COLUMNS} columns, slope 1/3, {inputs}, page {CARD_SIDE} \
-         by {CARD_SIDE}; the level and the command are in the time, the ends and the lights are not"
-    );
-    println!(
-        "# {name}: {:.1} ns a step, {:.0} ns a line, the single-shape call {:.0} ns",
-        times[0] / f64::from(CARD_COLUMNS),
-        times[0],
-        times[1]
-    );
-    println!("over_shape {name} {:.2}", times[0] / times[1]);
-}
-
-/// What stands outside of the steps.
-fn print_card_settings() {
-    let (lights, mut card) = (gamma(), card_for(card_line(), &gamma()));
-    let mut best = [Duration::MAX; 2];
-    let start = Instant::now();
-    while start.elapsed() < GROWTH_TIME {
-        let set = time(|| (0..REPEATS).for_each(|_| card.set_lights(black_box(&lights))));
-        let written = time(|| (0..REPEATS).for_each(|k| card.write(Card::LEVEL, k as u8)));
-        best = [best[0].min(set), best[1].min(written)];
-    }
-    let [set, written] = best.map(|time| nanoseconds(time, REPEATS));
-    println!(
-        "# card: {set:.0} ns to set the lights of a gamma, {written:.1} ns to write a register"
-    );
-}
-
-fn print_card_ratios() {
-    print_card_steps("card_steps", "lights equal to codes", &Lights::codes());
-    print_card_steps("card_steps_gamma", "gamma of a screen", &gamma());
-    print_card_settings();
-}
-
 /// One shape, drawn again and again on a square page.
 struct Sample {
     size: u16,
@@ -811,7 +711,6 @@ fn main() {
     print_gamma_ratios();
     print_list_ratios();
     print_squeeze_ratios();
-    print_card_ratios();
     print_shape_growth();
     print_page_growth();
 }

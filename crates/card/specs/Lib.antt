@@ -1,3 +1,0 @@
--- A drawing card.
-pub mod Card
-pub mod Run

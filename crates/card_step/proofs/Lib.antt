@@ -1,4 +1,0 @@
--- Laws of one step.
-pub mod Columns
-pub mod Strips
-pub mod Answers

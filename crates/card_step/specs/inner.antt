@@ -1,2 +1,0 @@
--- What the functions within need.
-pub mod Ready

@@ -1,3 +1,0 @@
--- Laws of registers.
-pub mod Refusals
-pub mod After

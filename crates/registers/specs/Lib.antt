@@ -1,3 +1,0 @@
--- The registers of a card.
-pub mod Registers
-pub mod After
