@@ -1,4 +1,6 @@
 // Whole-number arithmetic that the other crates share.
+#![tactic(auto)]
+
 ghost use Rattle.std.specs.Prelude.{◌≡◌, [], ◌∷◌, ◌-◌, ◌≤◌, ◌<◌, min, max, T};
 ghost use Rattle.std.specs.Int.Signed.{le_z};
 ghost use Rattle.numbers.specs.inner.Order.{dist, Product, Span, Remainder};
