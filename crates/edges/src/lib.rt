@@ -1,4 +1,6 @@
 // The area of a pixel under a straight edge that is at most 127 columns wide and 127 rows high.
+#![tactic(auto)]
+
 ghost use Rattle.std.specs.Prelude.{◌≡◌, ◌*◌, ◌≤◌};
 ghost use Rattle.numbers.specs.inner.Order.{dist};
 ghost use Rattle.numbers.specs.inner.Offset.{offset_most};

@@ -1,4 +1,6 @@
 // Lights: codes as lights, which lights are fit, and palettes.
+#![tactic(auto)]
+
 pub mod fit; // fit.rt: which lights are fit, and which are at even steps
 pub mod palette; // palette.rt: the lights, and guesses at the code of a light
 

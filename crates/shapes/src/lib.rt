@@ -1,4 +1,6 @@
 // The shapes, the settings and the records of a drawing list, and their coordinates as offsets.
+#![tactic(auto)]
+
 ghost use Rattle.std.specs.Prelude.{◌≡◌};
 ghost use Rattle.shapes.specs.inner.Offsets.{point_of, ends_of, corners_of};
 
