@@ -1,4 +1,6 @@
 // The answers of the library in the form that C takes: a refusal is its number, and 0 stands for none.
+#![tactic(auto)]
+
 pub mod shape; // shape.rt: what is told of one shape
 pub mod record; // record.rt: one record, read or written
 pub mod list; // list.rt: a whole list, checked, drawn or squeezed

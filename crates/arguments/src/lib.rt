@@ -1,4 +1,6 @@
 // The numbers of C, 32 bits wide, as the library takes them. What its 16 bits do not hold becomes a number that it refuses, so that nothing is narrowed in silence.
+#![tactic(auto)]
+
 ghost use Rattle.std.specs.Prelude.{◌≡◌};
 ghost use Rattle.arguments.specs.Taken.{coordinate_of, unsigned_of, edge_of, measure_of, basis_taken, basis_given, clip_of, line_of, disc_of, ring_of, triangle_of, taken_of};
 

@@ -1,4 +1,6 @@
 // The frame of a line, and what the band around it covers in the rows of a column, under the exact and the approximate rule.
+#![tactic(auto)]
+
 ghost use Rattle.std.specs.Prelude.{◌≡◌, ◌+◌, ◌*◌, ◌-◌, ◌≤◌, ◌<◌};
 ghost use Rattle.std.proofs.Math.IntN.{sub_ℕ};
 ghost use Rattle.bands.specs.Line.{row_of, rest_of};

@@ -1,4 +1,6 @@
 // How many pixels a shape may touch, and what trying a record tells: its refusal and what it counts towards the ceiling of its list.
+#![tactic(auto)]
+
 ghost use Rattle.std.specs.Prelude.{◌≡◌, ◌*◌};
 ghost use Rattle.numbers.specs.inner.Order.{Span};
 ghost use Rattle.limits.specs.Limits.{refusal_within, radius_room};

@@ -1,4 +1,6 @@
 // The heights of a circle and the chord rule.
+#![tactic(auto)]
+
 ghost use Rattle.std.specs.Prelude.{◌≡◌, ℕ, ◌+◌, ◌*◌, ◌-◌, ◌≤◌, ◌<◌, min, length, get_or, ◌&&◌, leb, ltb};
 ghost use Rattle.numbers.specs.inner.Offset.{offset_most};
 ghost use Rattle.limits.specs.Limits.{radius_most};

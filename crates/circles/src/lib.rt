@@ -1,4 +1,6 @@
 // Discs and rings on a lent page.
+#![tactic(auto)]
+
 ghost use Rattle.std.specs.Prelude.{◌≡◌, ◌&&◌, ◌+◌, ◌≤◌, leb, length};
 ghost use Rattle.numbers.specs.inner.Offset.{origin, offset_most};
 ghost use Rattle.limits.specs.Limits.{shape_refusal, radius_most};

@@ -1,5 +1,7 @@
 // Which columns of a line a walk takes: those in which the line touches a pixel under the clip, and among them those whose rows the clip
 // has all. The band's edges only rise, so that either lie together.
+#![tactic(auto)]
+
 pub mod layout;
 
 ghost use Rattle.std.specs.Prelude.{◌≡◌, ◌+◌, ◌*◌, ◌≤◌, ◌<◌};

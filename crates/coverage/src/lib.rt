@@ -1,4 +1,6 @@
 // The coverage of a pixel by a shape.
+#![tactic(auto)]
+
 ghost use Rattle.std.specs.Prelude.{◌≡◌, true, cond};
 ghost use Rattle.numbers.specs.Coordinate.{in_range};
 ghost use Rattle.limits.specs.Limits.{shape_refusal};

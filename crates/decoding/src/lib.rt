@@ -1,4 +1,6 @@
 // The header and the record whose bytes stand at the front of some bytes.
+#![tactic(auto)]
+
 ghost use Rattle.std.specs.Prelude.{◌≡◌, ◌+◌, ◌≤◌, length};
 ghost use Rattle.format.specs.Format.{header_size, word_at, coordinate_at, header_at, clip_at, line_at, disc_at, ring_at, big_disc_at, big_ring_at, triangle_at, record_at};
 ghost use Rattle.format.specs.inner.Record.{Whole};

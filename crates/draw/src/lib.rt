@@ -1,4 +1,6 @@
 // One shape on a lent page.
+#![tactic(auto)]
+
 ghost use Rattle.std.specs.Prelude.{◌≡◌, List, ℕ, length};
 ghost use Rattle.limits.specs.Limits.{shape_refusal};
 ghost use Rattle.coverage.specs.Coverage.{drawn_d};

@@ -1,4 +1,6 @@
 // A whole drawing list on a lent page.
+#![tactic(auto)]
+
 ghost use Rattle.std.specs.Prelude.{◌≡◌, ℕ, ◌*◌, ◌≤◌, length};
 ghost use Rattle.limits.specs.Limits.{record_refusal};
 ghost use Rattle.lights.specs.inner.Fit.{Fit, IsKind};

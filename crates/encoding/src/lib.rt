@@ -1,4 +1,6 @@
 // The bytes of headers and records.
+#![tactic(auto)]
+
 ghost use Rattle.std.specs.Prelude.{◌≡◌, [], ◌∷◌, ◌++◌, ◌≤◌};
 ghost use Rattle.format.specs.Format.{words, coordinates, measures, header_bytes, record_bytes};
 ghost use Rattle.format.specs.inner.Record.{padded, CircleFits, ShapeFits, RecordFits};

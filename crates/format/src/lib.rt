@@ -1,4 +1,6 @@
 // The kinds of records, how many bytes each has, and which a version has; what a header tells.
+#![tactic(auto)]
+
 ghost use Rattle.std.specs.Prelude.{◌≡◌, cond, length};
 ghost use Rattle.format.specs.Format.{kind_size, last_kind, kind_of, record_bytes, basis_of};
 

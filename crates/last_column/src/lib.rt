@@ -1,4 +1,6 @@
 // How far a line goes: the last column in which it touches a pixel.
+#![tactic(auto)]
+
 ghost use Rattle.std.specs.Prelude.{◌≡◌};
 ghost use Rattle.limits.specs.Limits.{shape_refusal};
 ghost use Rattle.last_column.specs.Column.{column_refusal, column_reach};

@@ -1,4 +1,6 @@
 // Which sizes, clips, players, shapes and records are lawful: the number of the first refusal of each, or 0.
+#![tactic(auto)]
+
 ghost use Rattle.std.specs.Prelude.{◌≡◌, ◌≤◌};
 ghost use Rattle.numbers.specs.inner.Offset.{offset_most};
 ghost use Rattle.shapes.specs.inner.Offsets.{greatest_of, least_of, spread_of, farthest, straight};

@@ -1,4 +1,6 @@
 // Lines on a lent page, column by column along the longer span.
+#![tactic(auto)]
+
 ghost use Rattle.std.specs.Prelude.{◌≡◌, length};
 ghost use Rattle.shapes.specs.declared.Shape.TheVariants.{Line as asShape};
 ghost use Rattle.coverage.specs.Coverage.{drawn_d};

@@ -1,2 +1,4 @@
 // Drawing lists: the check of a whole list.
+#![tactic(auto)]
+
 pub mod check;

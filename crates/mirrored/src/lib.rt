@@ -1,4 +1,6 @@
 // Rows of a ring of which the clip has both sides: pixels that mirror each other about the centre are blended by one coverage.
+#![tactic(auto)]
+
 ghost use Rattle.std.specs.Prelude.{◌≡◌, ◌+◌, ◌≤◌, ◌<◌, length};
 ghost use Rattle.numbers.specs.inner.Offset.{origin};
 ghost use Rattle.lights.specs.inner.Palette.{lights_in};

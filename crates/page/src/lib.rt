@@ -1,4 +1,6 @@
 // What is drawn on a lent page.
+#![tactic(auto)]
+
 ghost use Rattle.std.specs.Prelude.{◌≡◌, ◌+◌, ◌-◌, ◌*◌, ◌≤◌, ◌<◌, length, get_or, set};
 ghost use Rattle.blending.specs.inner.Quotient.{Coverage};
 ghost use Rattle.lights.specs.inner.Palette.{lights_in, Palette};

@@ -1,4 +1,6 @@
 // Reads a drawing list from standard input and prints its page as a plain PGM, or the refusal.
+#![tactic(auto)]
+
 ghost use Rattle.std.specs.Prelude.{◌≡◌, ◌+◌, ◌*◌, ◌≤◌, length, take};
 ghost use Rattle.print.specs.Printed.{list_text, outcome_text};
 

@@ -1,4 +1,6 @@
 // The coverage of a ring by the distances from its centre, and where a row of it changes.
+#![tactic(auto)]
+
 ghost use Rattle.std.specs.Prelude.{◌≡◌, ℕ, ◌+◌, ◌*◌, ◌≤◌, ◌<◌, min, max, leb, length};
 ghost use Rattle.limits.specs.Limits.{radius_most};
 ghost use Rattle.chords.specs.Circle.{chords};

@@ -1,4 +1,6 @@
 // The settings in force.
+#![tactic(auto)]
+
 ghost use Rattle.std.specs.Prelude.{◌≡◌};
 ghost use Rattle.settings.specs.Settings.{start, in_force};
 

@@ -1,4 +1,6 @@
 // A triangle's coverage of a pixel, from the areas under its sides. Corners and pixels are at offsets.
+#![tactic(auto)]
+
 ghost use Rattle.std.specs.Prelude.{◌≡◌, true, ◌*◌, ◌≤◌, ◌<◌, pos};
 ghost use Rattle.numbers.specs.Coordinate.{in_range};
 ghost use Rattle.numbers.specs.inner.Offset.{offset_most};

@@ -1,4 +1,6 @@
 // Squeezes a list for storage: settings that change nothing go.
+#![tactic(auto)]
+
 mod kinds;
 mod put;
 mod size;

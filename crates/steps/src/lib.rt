@@ -1,4 +1,6 @@
 // One column of a line on a lent page.
+#![tactic(auto)]
+
 ghost use Rattle.std.specs.Prelude.{true, ◌≡◌, ◌+◌, ◌*◌, ◌-◌, ◌≤◌, ◌<◌, length};
 ghost use Rattle.blending.specs.inner.Quotient.{Coverage};
 ghost use Rattle.lights.specs.inner.Palette.{lights_in, Palette};

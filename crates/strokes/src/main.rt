@@ -1,4 +1,6 @@
 // Prints reference strokes that are at the edge of what a coverage query takes: one line each, n and d, or the refusal.
+#![tactic(auto)]
+
 use libc::STDOUT_FILENO;
 
 fn print_answer(answer: coverage::Answer) {

@@ -1,4 +1,6 @@
 // The text of a page and of a refusal, written into a buffer.
+#![tactic(auto)]
+
 ghost use Rattle.std.specs.Prelude.{◌≡◌, ◌++◌, ◌+◌, ◌*◌, ◌%◌, ◌≤◌, ◌<◌, length, take};
 ghost use Rattle.text.specs.Text.{digit_of, digits, number, after_level, next_column, levels_text, after_count, counts_text, refusal_text, head_text, page_text};
 

@@ -1,4 +1,6 @@
 // Filled triangles: exactly two sides cross a row of pixels, since corners lie on pixel corners, and the row is drawn between them.
+#![tactic(auto)]
+
 pub mod side; // side.rt: a side, and where it stands in a row
 pub mod row; // row.rt: a row between two sides
 

@@ -1,5 +1,7 @@
 // The writer of a drawing list: the list being written together with the place reached, and the version, W and H that are held.
 // The work is done by `records::write`; the thin functions take the writer apart and store what is answered.
+#![tactic(auto)]
+
 ghost use Rattle.std.specs.Prelude.{◌≡◌};
 ghost use Rattle.writer.specs.Writer.{header_by, record_by, headed, recorded, started_of, started_list};
 
