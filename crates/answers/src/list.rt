@@ -8,7 +8,7 @@ use shapes::PLAYERS;
 
 // The header of a list and the ceiling of its touches where refusal is 0; else the place of the refusal, and zeros.
 #[repr(C)]
-#[derive(Drop)]
+#[derive(Clone, Copy)]
 pub struct CheckAnswer {
     pub refusal: u32,
     pub place: usize,
@@ -45,7 +45,7 @@ pub fn check_answer(checked: Checked) -> CheckAnswer
 
 // W, H and how many pixels the shapes of each player touched where refusal is 0; else the place of the refusal, and zeros.
 #[repr(C)]
-#[derive(Drop)]
+#[derive(Clone, Copy)]
 pub struct ListAnswer {
     pub refusal: u32,
     pub place: usize,
@@ -80,7 +80,7 @@ pub fn list_answer(outcome: drawing::Outcome) -> ListAnswer
 
 // How many bytes the squeezed list has where refusal is 0; else the place of the refusal, and 0.
 #[repr(C)]
-#[derive(Drop)]
+#[derive(Clone, Copy)]
 pub struct SqueezeAnswer {
     pub refusal: u32,
     pub place: usize,

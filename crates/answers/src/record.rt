@@ -10,7 +10,7 @@ use shapes::{Basis, Clip, Disc, Line, Record, Ring, Setting, Shape, Triangle};
 
 // A record where refusal is 0: how many bytes it has, its kind byte and its numbers in their order. What a kind has not is 0.
 #[repr(C)]
-#[derive(Drop)]
+#[derive(Clone, Copy)]
 pub struct ReadAnswer {
     pub refusal: u32,
     pub place: usize,
@@ -175,7 +175,7 @@ pub fn read_answer(reading: Reading) -> ReadAnswer
 
 // Where the next record goes, and the version, W and H that are held from now on; after a refusal they are those that were given.
 #[repr(C)]
-#[derive(Drop)]
+#[derive(Clone, Copy)]
 pub struct WriteAnswer {
     pub refusal: u32,
     pub place: usize,

@@ -4,7 +4,7 @@ ghost use Rattle.answers.specs.Shape.{answered, drawn, reached};
 
 // n over d where refusal is 0; else n and d are 0.
 #[repr(C)]
-#[derive(Drop)]
+#[derive(Clone, Copy)]
 pub struct CoverageAnswer {
     pub refusal: u32,
     pub place: usize,
@@ -34,7 +34,7 @@ pub fn coverage_answer(answer: coverage::Answer) -> CoverageAnswer
 
 // How many pixels were touched where refusal is 0; else 0.
 #[repr(C)]
-#[derive(Drop)]
+#[derive(Clone, Copy)]
 pub struct DrawAnswer {
     pub refusal: u32,
     pub place: usize,
@@ -61,7 +61,7 @@ pub fn draw_answer(outcome: draw::Outcome) -> DrawAnswer
 
 // Where refusal is 0, found is 1 and the column is the last one, or both are 0; else both are 0.
 #[repr(C)]
-#[derive(Drop)]
+#[derive(Clone, Copy)]
 pub struct ColumnAnswer {
     pub refusal: u32,
     pub place: usize,

@@ -8,7 +8,7 @@ use shapes::{Basis, Clip, Disc, Line, Ring, Shape, Triangle};
 
 // A shape: its kind byte in a list, and its numbers in the order of the record's fields. Numbers past those that the kind has are ignored.
 #[repr(C)]
-#[derive(Drop)]
+#[derive(Clone, Copy)]
 pub struct GivenShape {
     pub kind: u32,
     pub numbers: [i32; 6],
@@ -16,7 +16,7 @@ pub struct GivenShape {
 
 // What a record is read and written against: the version of its list, W and H.
 #[repr(C)]
-#[derive(Drop)]
+#[derive(Clone, Copy)]
 pub struct GivenBasis {
     pub version: u32,
     pub w: u32,
@@ -24,7 +24,7 @@ pub struct GivenBasis {
 }
 
 #[repr(C)]
-#[derive(Drop)]
+#[derive(Clone, Copy)]
 pub struct GivenClip {
     pub x0: u32,
     pub y0: u32,
@@ -33,7 +33,7 @@ pub struct GivenClip {
 }
 
 // The shape of the given numbers, or that there is none of the kind.
-#[derive(Drop)]
+#[derive(Clone, Copy)]
 pub enum Taken {
     Known(Shape),
     Unknown,

@@ -15,7 +15,7 @@ pub const ROW_ORIGIN: u64 = 16384;
 
 // A line in its own frame: the spans l and s, whether x and y are exchanged, whether rows are mirrored, and the offsets of the
 // first end after the exchange.
-#[derive(Drop)]
+#[derive(Clone, Copy)]
 pub struct Frame {
     pub l: u64,
     pub s: u64,
@@ -26,7 +26,7 @@ pub struct Frame {
 }
 
 // What the three rows of a column have.
-#[derive(Drop)]
+#[derive(Clone, Copy)]
 pub struct Rows {
     pub upper: u64,
     pub middle: u64,
@@ -34,7 +34,7 @@ pub struct Rows {
 }
 
 // The row q and the rest r of a column.
-#[derive(Drop)]
+#[derive(Clone, Copy)]
 pub struct Crossing {
     pub q: u64,
     pub r: u64,

@@ -64,7 +64,7 @@ fn clip_pixels(clip: Clip) -> u64
 }
 
 // What trying a record tells: its refusal or 0, what it counts under a clip of so many pixels, and the pixels of the clip in force behind it.
-#[derive(Drop)]
+#[derive(Clone, Copy)]
 pub struct Tried {
     pub refusal: u8,
     pub ceiling: u64,

@@ -126,7 +126,7 @@ pub fn heights(hs: &mut [u32], radius: u64)
 }
 
 // What a root is known to lie between: at least low, and below high.
-#[derive(Drop)]
+#[derive(Clone, Copy)]
 struct Bracket {
     low: u64,
     high: u64,

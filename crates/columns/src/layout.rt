@@ -23,7 +23,7 @@ const MIRRORED: usize = ROW_ORIGIN - ORIGIN;
 
 // How a line's frame lies on a page: the bytes from one column to the next and from one row to the next, whether rows are mirrored,
 // the clip's rows, and what is added to a byte's index.
-#[derive(Drop)]
+#[derive(Clone, Copy)]
 pub struct Layout {
     pub along: usize,
     pub across: usize,

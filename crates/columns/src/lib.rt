@@ -15,7 +15,7 @@ use bands::{Frame, ROW_ORIGIN, column_reaching};
 use page::View;
 
 // The columns of the page, or its rows, from one to before another.
-#[derive(Drop)]
+#[derive(Clone, Copy)]
 pub struct Span {
     pub from: usize,
     pub end: usize,

@@ -8,13 +8,13 @@ ghost use Rattle.shapes.specs.declared.Shape.TheVariants.{Line as asLine, Disc a
 ghost use Rattle.coverage.specs.Coverage.{query_refusal, ratio_of, queried};
 
 // A coverage of n over d.
-#[derive(Drop)]
+#[derive(Clone, Copy)]
 pub struct Ratio {
     pub n: u64,
     pub d: u64,
 }
 
-#[derive(Drop)]
+#[derive(Clone, Copy)]
 pub enum Answer {
     Covered(Ratio),
     Refused(u8),

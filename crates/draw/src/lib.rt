@@ -19,7 +19,7 @@ use page::View;
 use shapes::{Clip, Disc, Line, Ring, Shape, Triangle};
 
 // How many pixels a shape touched, or the number of the refusal.
-#[derive(Drop)]
+#[derive(Clone, Copy)]
 pub enum Outcome {
     Touched(u64),
     Refused(u8),

@@ -19,14 +19,14 @@ use lists::check::Checked;
 use shapes::{Basis, Clip, PLAYERS, Record};
 
 // What drawing a list answers: W and H, or the refusal and its place.
-#[derive(Drop)]
+#[derive(Clone, Copy)]
 pub enum Answer {
     Drawn { w: u16, h: u16 },
     Refused { refusal: u8, place: usize },
 }
 
 // The answer, and how many pixels the shapes of each player touched: none after a refusal.
-#[derive(Drop)]
+#[derive(Clone, Copy)]
 pub struct Outcome {
     pub answer: Answer,
     pub touched: [u64; PLAYERS],

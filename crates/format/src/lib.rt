@@ -19,7 +19,7 @@ pub const RECORD_MOST: usize = 13;
 pub const TRIANGLE_KIND: u8 = 10;
 
 // What a header tells: the version of the list, W, H and the background.
-#[derive(Drop)]
+#[derive(Clone, Copy)]
 pub struct Header {
     pub version: u16,
     pub w: u16,

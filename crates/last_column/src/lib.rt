@@ -11,7 +11,7 @@ use draw::view_of;
 use shapes::{Clip, Line, Shape};
 
 // The last column of a line in which it touches a pixel, or that there is none; or the number of the refusal.
-#[derive(Drop)]
+#[derive(Clone, Copy)]
 pub enum Reach {
     Last(u64),
     Nothing,

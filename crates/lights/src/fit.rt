@@ -4,7 +4,7 @@ ghost use Rattle.lights.specs.Lights.{light_of, rises_to};
 ghost use Rattle.lights.specs.inner.Fit.{Rising, EvenSteps, StepsOf, IsKind};
 
 // Whether lights are fit, and whether they are known to be at even steps.
-#[derive(Drop)]
+#[derive(Clone, Copy)]
 pub struct Kind {
     pub fit: bool,
     pub even: bool,

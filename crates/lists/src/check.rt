@@ -11,7 +11,7 @@ use lights::fit::{Kind, kind_of};
 use records::read::{next_place, try_front};
 
 // What the check answers: the header of an accepted list and the ceiling of its touches, or the number of the refusal and its place.
-#[derive(Drop)]
+#[derive(Clone, Copy)]
 pub enum Checked {
     Accepted { header: Header, ceiling: u64 },
     Refused { refusal: u8, place: usize },

@@ -118,7 +118,7 @@ pub fn word(low: u8, high: u8) -> u16
 }
 
 // The two bytes of a 16-bit number.
-#[derive(Drop)]
+#[derive(Clone, Copy)]
 pub struct WordBytes {
     pub low: u8,
     pub high: u8,

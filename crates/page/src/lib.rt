@@ -10,7 +10,7 @@ ghost use Rattle.page.specs.Page.{over};
 ghost use Rattle.page.specs.inner.Paint.{dot, touch, Lawful, Filled, clamped};
 
 // The width and height of a page, and a clip on it.
-#[derive(Drop)]
+#[derive(Clone, Copy)]
 pub struct View {
     pub w: usize,
     pub h: usize,

@@ -12,7 +12,7 @@ use format::{RECORD_MOST, kind_size, last_kind};
 use shapes::{Basis, Record};
 
 // What the reader answers: the record, or the number of the refusal.
-#[derive(Drop)]
+#[derive(Clone, Copy)]
 pub enum Reading {
     Found(Record),
     Refused(u8),

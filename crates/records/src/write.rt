@@ -13,7 +13,7 @@ use format::{
 use shapes::{Basis, Record};
 
 // What the writer answers: the number of the refusal or 0, and the place, the version, W and H from now on.
-#[derive(Drop)]
+#[derive(Clone, Copy)]
 pub struct Written {
     pub refusal: u8,
     pub place: usize,

@@ -10,7 +10,7 @@ use chords::chord_of;
 use numbers::{greater, lesser};
 
 // The offsets of the centre, the radii of the two circles, the level, and the scale of the blends over 512. A disc has a hole of radius 0.
-#[derive(Drop)]
+#[derive(Clone, Copy)]
 pub struct Ring {
     pub cx: u64,
     pub cy: u64,
@@ -21,7 +21,7 @@ pub struct Ring {
 }
 
 // The distances at which a row changes: a hole, an edge, a whole part, an edge.
-#[derive(Drop)]
+#[derive(Clone, Copy)]
 pub struct Widths {
     pub hole: u64,
     pub inner: u64,

@@ -7,7 +7,7 @@ ghost use Rattle.settings.specs.Settings.{start, in_force};
 use shapes::{Basis, Clip, Record, Setting};
 
 // The clip, the level and the player in force.
-#[derive(Drop)]
+#[derive(Clone, Copy)]
 pub struct Settings {
     pub clip: Clip,
     pub level: u8,

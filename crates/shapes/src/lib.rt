@@ -7,7 +7,7 @@ ghost use Rattle.shapes.specs.inner.Offsets.{point_of, ends_of, corners_of};
 // How many players there are.
 pub const PLAYERS: usize = 8;
 
-#[derive(Drop)]
+#[derive(Clone, Copy)]
 pub struct Line {
     pub exact: bool,
     pub x0: i16,
@@ -17,7 +17,7 @@ pub struct Line {
 }
 
 // A disc and a ring are big where a record has two bytes for the radius, and as many for the width: kinds 8 and 9, and not 5 and 6.
-#[derive(Drop)]
+#[derive(Clone, Copy)]
 pub struct Disc {
     pub x: i16,
     pub y: i16,
@@ -25,7 +25,7 @@ pub struct Disc {
     pub big: bool,
 }
 
-#[derive(Drop)]
+#[derive(Clone, Copy)]
 pub struct Ring {
     pub x: i16,
     pub y: i16,
@@ -34,7 +34,7 @@ pub struct Ring {
     pub big: bool,
 }
 
-#[derive(Drop)]
+#[derive(Clone, Copy)]
 pub struct Triangle {
     pub x0: i16,
     pub y0: i16,
@@ -44,7 +44,7 @@ pub struct Triangle {
     pub y2: i16,
 }
 
-#[derive(Drop)]
+#[derive(Clone, Copy)]
 pub enum Shape {
     Line(Line),
     Disc(Disc),
@@ -52,7 +52,7 @@ pub enum Shape {
     Triangle(Triangle),
 }
 
-#[derive(Drop)]
+#[derive(Clone, Copy)]
 pub struct Clip {
     pub x0: u16,
     pub y0: u16,
@@ -61,21 +61,21 @@ pub struct Clip {
 }
 
 // What a record is read and written against: the version of its list, W and H.
-#[derive(Drop)]
+#[derive(Clone, Copy)]
 pub struct Basis {
     pub version: u16,
     pub w: u16,
     pub h: u16,
 }
 
-#[derive(Drop)]
+#[derive(Clone, Copy)]
 pub enum Setting {
     Clip(Clip),
     Level(u8),
     Player(u8),
 }
 
-#[derive(Drop)]
+#[derive(Clone, Copy)]
 pub enum Record {
     End,
     Setting(Setting),
@@ -83,7 +83,7 @@ pub enum Record {
 }
 
 // A point, its coordinates as offsets.
-#[derive(Drop)]
+#[derive(Clone, Copy)]
 pub struct Point {
     pub x: u64,
     pub y: u64,
@@ -99,7 +99,7 @@ pub fn point_of(x: i16, y: i16) -> Point
 }
 
 // The ends of a line, their coordinates as offsets.
-#[derive(Drop)]
+#[derive(Clone, Copy)]
 pub struct Ends {
     pub x0: u64,
     pub y0: u64,
@@ -119,7 +119,7 @@ pub fn ends_of(line: Line) -> Ends
 }
 
 // The corners of a triangle, their coordinates as offsets.
-#[derive(Drop)]
+#[derive(Clone, Copy)]
 pub struct Corners {
     pub x0: u64,
     pub y0: u64,

@@ -13,14 +13,14 @@ ghost use Rattle.sides.specs.inner.Offsets.{at, offset_n, offset_d, Near, NearCo
 use shapes::{Corners, Triangle};
 
 // A coverage of n over d.
-#[derive(Drop)]
+#[derive(Clone, Copy)]
 pub struct Cover {
     pub n: u64,
     pub d: u64,
 }
 
 // What a side gives at a pixel: it adds, or takes away, over d.
-#[derive(Drop)]
+#[derive(Clone, Copy)]
 pub struct Given {
     pub add: u64,
     pub take: u64,

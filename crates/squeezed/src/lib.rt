@@ -3,7 +3,7 @@
 
 
 // What squeezing answers: the length of the squeezed list, or the number of the refusal and its place.
-#[derive(Drop)]
+#[derive(Clone, Copy)]
 pub enum Answer {
     Squeezed(usize),
     Refused { refusal: u8, place: usize },

@@ -15,7 +15,7 @@ use columns::layout::Layout;
 use page::View;
 
 // One line on one page: what its columns are drawn with.
-#[derive(Drop)]
+#[derive(Clone, Copy)]
 pub struct Stroke {
     pub view: View,
     pub line: shapes::Line,
@@ -28,7 +28,7 @@ pub struct Stroke {
 
 // Where a walk stands: the column p of the page, the byte k and the row g of the column's middle pixel, its rest r, and how many pixels
 // the walk has touched.
-#[derive(Drop)]
+#[derive(Clone, Copy)]
 pub struct Step {
     pub p: usize,
     pub k: usize,

@@ -10,7 +10,7 @@ ghost use Rattle.triangles.specs.inner.Side.{SideFit, SideIs, CutOf};
 // A side that goes up h rows from row y on, and over them so many columns to the right, or to the left. In a row it stands between two
 // places that are `right` + `left` apart, in units of which h make a column; `start` is the lower one in its first row. The inverse of h
 // makes a quotient a product. Shares are over d, whose scale is m.
-#[derive(Drop)]
+#[derive(Clone, Copy)]
 pub struct Side {
     pub y: u64,
     pub h: u64,
@@ -23,7 +23,7 @@ pub struct Side {
 }
 
 // A side in one row: it stands between low and high, and leaves a pixel in part only in columns from `column` to before `end`.
-#[derive(Drop)]
+#[derive(Clone, Copy)]
 pub struct Cut {
     pub h: u64,
     pub low: u64,
