@@ -17,7 +17,7 @@ use Rattle.numbers.specs.inner.Offset.{offset_most, offset_of}
 use Rattle.numbers.proofs.Order.{lt_or_le, eq_or_ne, cond_le}
 use Rattle.numbers.proofs.Integer.{Diff, diff_le, le_diff}
 use Rattle.numbers.proofs.Coordinate.{InRange, in_range_lem, range_offset}
-use Rattle.limits.specs.Limits.{off_version, off_size, off_page, outside, same, off_range, refusals_of, radius_most, circle_room, radius_room, size_refusal, basis_refusal, clip_refusal, refusal_within, shape_refusal}
+use Rattle.limits.specs.Limits.{off_version, off_size, off_page, outside, same, off_range, refusals_of, radius_most, radius_room, size_refusal, basis_refusal, clip_refusal, refusal_within, shape_refusal}
 use Rattle.shapes.specs.inner.Offsets.{point_of, ends_of}
 use Rattle.shapes.specs.declared.Point.{Point}
 use Rattle.shapes.specs.declared.Ends.{Ends}
