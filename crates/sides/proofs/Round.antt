@@ -1,6 +1,7 @@
 -- A triangle's coverage is a lawful answer to a query, and the order of its corners does not matter.
 use mathlib.Core.Path.{◌≡◌, refl, sym, ◌∙◌, ap}
 use mathlib.Core.Bool.{Bool, true, false}
+use Rattle.std.proofs.Common.{true≢false}
 use Prim.Native.Nat.{ℕ, ◌+◌, ◌*◌, ◌≤◌, ◌<◌}
 use native.Mathlib.Nat.{mul-le-mul, mul-le-mul_right}
 use native.Mathlib.Omega.{arith}
@@ -25,7 +26,7 @@ sum_diff {u₁ = u₁} {w₁} {u₂} {w₂} {u₃} {w₃} d₁ d₂ d₃ p q r =
 data Part : Bool → Bool → ℕ → ℕ → ℕ → Type 0 where
   right : {u d : ℕ} → u ≤ d → Part true false u 0 d
   left : {w d : ℕ} → w ≤ d → Part false true 0 w d
-  none : {s : Bool} {d : ℕ} → Part s s 0 0 d
+  none : {s t : Bool} {d : ℕ} → s ≡ t → Part s t 0 0 d
 
 record Sided (s t : Bool) (n : ℤ) (d : ℕ) : Type 0 where
   add : ℕ
@@ -41,19 +42,25 @@ sided a b x y = go (le_z a.x x) (le_z b.x x) refl refl
     go true false e f = record { add = share_n a b x y; take = 0; value = diff_pos (share_n a b x y); part = right (share_le a b x y e f) }
     go false true e f =
         record { add = 0; take = share_n b a x y; value = diff_neg (diff_pos (share_n b a x y)); part = left (rw (back_whole a b) at (share_le b a x y f e)) }
-    go true true e f = record { add = 0; take = 0; value = diff_pos 0; part = none }
-    go false false e f = record { add = 0; take = 0; value = diff_pos 0; part = none }
+    go true true e f = record { add = 0; take = 0; value = diff_pos 0; part = none refl }
+    go false false e f = record { add = 0; take = 0; value = diff_pos 0; part = none refl }
 
 -- at most one side adds and at most one takes away
 three : {s t v : Bool} {u₁ w₁ d₁ u₂ w₂ d₂ u₃ w₃ d₃ : ℕ} → Part s t u₁ w₁ d₁ → Part t v u₂ w₂ d₂ → Part v s u₃ w₃ d₃
     → dist (u₁ * (d₂ * d₃) + u₂ * (d₁ * d₃) + u₃ * (d₁ * d₂)) (w₁ * (d₂ * d₃) + w₂ * (d₁ * d₃) + w₃ * (d₁ * d₂)) ≤ d₁ * d₂ * d₃
-three {d₁ = d₁} {d₂ = d₂} {d₃ = d₃} (right h) (left g) none = omega (arith, mul-le-mul_right (d₂ * d₃) h, mul-le-mul_right (d₁ * d₃) g)
-three {d₁ = d₁} {d₂ = d₂} {d₃ = d₃} (right h) none (left g) = omega (arith, mul-le-mul_right (d₂ * d₃) h, mul-le-mul_right (d₁ * d₂) g)
-three {d₁ = d₁} {d₂ = d₂} {d₃ = d₃} (left h) (right g) none = omega (arith, mul-le-mul_right (d₂ * d₃) h, mul-le-mul_right (d₁ * d₃) g)
-three {d₁ = d₁} {d₂ = d₂} {d₃ = d₃} (left h) none (right g) = omega (arith, mul-le-mul_right (d₂ * d₃) h, mul-le-mul_right (d₁ * d₂) g)
-three {d₁ = d₁} {d₂ = d₂} {d₃ = d₃} none (right h) (left g) = omega (arith, mul-le-mul_right (d₁ * d₃) h, mul-le-mul_right (d₁ * d₂) g)
-three {d₁ = d₁} {d₂ = d₂} {d₃ = d₃} none (left h) (right g) = omega (arith, mul-le-mul_right (d₁ * d₃) h, mul-le-mul_right (d₁ * d₂) g)
-three none none none = omega arith
+three {d₁ = d₁} {d₂ = d₂} {d₃ = d₃} (right h) (left g) (none _) = omega (arith, mul-le-mul_right (d₂ * d₃) h, mul-le-mul_right (d₁ * d₃) g)
+three {d₁ = d₁} {d₂ = d₂} {d₃ = d₃} (right h) (none _) (left g) = omega (arith, mul-le-mul_right (d₂ * d₃) h, mul-le-mul_right (d₁ * d₂) g)
+three {d₁ = d₁} {d₂ = d₂} {d₃ = d₃} (left h) (right g) (none _) = omega (arith, mul-le-mul_right (d₂ * d₃) h, mul-le-mul_right (d₁ * d₃) g)
+three {d₁ = d₁} {d₂ = d₂} {d₃ = d₃} (left h) (none _) (right g) = omega (arith, mul-le-mul_right (d₂ * d₃) h, mul-le-mul_right (d₁ * d₂) g)
+three {d₁ = d₁} {d₂ = d₂} {d₃ = d₃} (none _) (right h) (left g) = omega (arith, mul-le-mul_right (d₁ * d₃) h, mul-le-mul_right (d₁ * d₂) g)
+three {d₁ = d₁} {d₂ = d₂} {d₃ = d₃} (none _) (left h) (right g) = omega (arith, mul-le-mul_right (d₁ * d₃) h, mul-le-mul_right (d₁ * d₂) g)
+three (right h) (none e) (none f) = absurd (true≢false (sym (e ∙ f)))
+three (left h) (none e) (none f) = absurd (true≢false (e ∙ f))
+three (none e) (right h) (none f) = absurd (true≢false (sym (f ∙ e)))
+three (none e) (left h) (none f) = absurd (true≢false (f ∙ e))
+three (none e) (none f) (right h) = absurd (true≢false (sym (e ∙ f)))
+three (none e) (none f) (left h) = absurd (true≢false (e ∙ f))
+three (none e) (none f) (none _) = omega arith
 
 pub cover_le : (a b c : Corner) (x y : ℤ) → cover_n a b c x y ≤ cover_d a b c
 unfolding cover_n cover_d

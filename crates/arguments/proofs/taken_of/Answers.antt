@@ -12,7 +12,7 @@ use Rattle.arguments.proofs.taken_of.Goals as goal
 
 pub returns-in-3 : goal.returns-in-3
 unfolding taken_of
-returns-in-3 c = rw c.in-3.is (ap (λ (x : Line). Known (line x)) c.Line-of.ensures)
+returns-in-3 c = rw c.in-3.is (ap (λ (x : Line). Known (line x)) c.line_of.ensures)
 
 pub returns-in-4 : goal.returns-in-4
 unfolding taken_of
@@ -41,5 +41,5 @@ returns-in-10 c = rw c.in-10.is (ap (λ (x : Triangle). Known (triangle x)) c.tr
 pub returns-in_default : goal.returns-in_default
 unfolding taken_of
 returns-in_default c =
-    let r = c.in_default.rest in
+    let r = c.in_default.in_default-own.rest in
     simp (ne_eqb _ _ r.1, ne_eqb _ _ r.0.1, ne_eqb _ _ r.0.0.1, ne_eqb _ _ r.0.0.0.1, ne_eqb _ _ r.0.0.0.0.1, ne_eqb _ _ r.0.0.0.0.0.1, ne_eqb _ _ r.0.0.0.0.0.0.1)

@@ -1,12 +1,25 @@
 -- The heights before k = radius - left are held, the rest are 0, and y is not below the next one.
-use mathlib.Core.Path.{◌≡◌, sym, ◌∙◌}
+use mathlib.Core.Path.{◌≡◌, sym, ◌∙◌, subst}
 use mathlib.Core.Logic.{⊎_elim}
+use mathlib.Core.List.{List}
 use Prim.Native.Nat.{ℕ, ◌+◌, ◌-◌, ◌*◌, ◌≤◌, ◌<◌}
 use native.Mathlib.Omega.{arith}
+use lib.ListN.{length, get_or, set, length-set}
+use lib.Seq.{get_or-set_same, get_or-set_other}
+use borrow.Author.Count.{below_more}
 use Rattle.numbers.proofs.Order.{lt_or_le}
 use Rattle.chords.specs.Circle.{half_root, height_of}
 use Rattle.chords.proofs.Height.{half_root_le, half_root_from, half_root_high, height_beyond}
 use Rattle.chords.proofs.heights.Goals as goal
+
+-- the heights before k are held in what was an array of zeros, the others are 0, and y is not below the height at k
+abbrev Filled : List ℕ → ℕ → ℕ → List ℕ → ℕ → Type 0
+Filled zeros R k hs y =
+    (y ≤ 256 * R)
+    × (262144 * (R * R - k * k) < (2 * y + 1) * (2 * y + 1))
+    × (length hs ≡ length zeros)
+    × ((j : ℕ) → j < k → get_or hs j 0 ≡ height_of R j)
+    × ((j : ℕ) → k ≤ j → get_or hs j 0 ≡ 0)
 
 -- next is the height at k: not above y, and not below the height at k + 1
 record Found (R k y next : ℕ) : Type 0 where
@@ -24,31 +37,43 @@ found R k y h₁ h₂ =
       above = omega (arith, half_root_high y m h₂);
     }
 
--- where the loop stands
-module _ (c : tie.At-loop invariant_loop decreases_loop) where
-  abbrev R : ℕ
-  R = c.before.before.args.radius
-
-  abbrev k : ℕ
-  k = R - c.loop.left
-
-here : (c : tie.After-next-height invariant_loop decreases_loop) → let l = c.before.before in Found (R l) (k l) l.loop.y c.next-height.result
-here c =
-    let l = c.before.before in
-    rw c.next-height.ensures (found (R l) (k l) l.loop.y l.loop.invariant.1.0 l.loop.invariant.1.1)
-
 pub overflow_cast-hs : goal.overflow_cast-hs
-overflow_cast-hs c = omega (arith, (here c).most)
+overflow_cast-hs c =
+    let R : ℕ = c.args.radius in
+    let k : ℕ = R - c.loop-left.left in
+    let here : Found R k c.loop-left.y c.next_height-next.result = rw c.next_height-next.ensures (found R k c.loop-left.y c.loop-left.invariant.1.0 c.loop-left.invariant.1.1) in
+    omega (arith, here.most)
 
 pub overflow_sub-step : goal.overflow_sub-step
-overflow_sub-step c = (here c).most
+overflow_sub-step c =
+    let R : ℕ = c.args.radius in
+    let k : ℕ = R - c.loop-left.left in
+    let here : Found R k c.loop-left.y c.next_height-next.result = rw c.next_height-next.ensures (found R k c.loop-left.y c.loop-left.invariant.1.0 c.loop-left.invariant.1.1) in
+    here.most
 
 pub loop-left-preserved : goal.loop-left-preserved
-loop-left-preserved c = c.loop-left.invariant.1.2
+loop-left-preserved c =
+    let R : ℕ = c.args.radius in
+    let k : ℕ = R - c.loop-left.left in
+    let here : Found R k c.loop-left.y c.next_height-next.result = rw c.next_height-next.ensures (found R k c.loop-left.y c.loop-left.invariant.1.0 c.loop-left.invariant.1.1) in
+    let l = c.loop-left in
+    let y = c.next_height-next.result in
+    let next : k + 1 ≡ R - (l.left - 1) = omega arith in
+    let filled : Filled c.args.hs.now R (k + 1) (set l.hs k y) y = (
+      omega (arith, here.most),
+      here.above,
+      length-set l.hs k y ∙ l.invariant.1.2,
+      below_more (λ (j : ℕ). get_or (set l.hs k y) j 0 ≡ height_of R j) k
+          (λ j h. get_or-set_other l.hs k j y 0 (λ q. omega arith) ∙ l.invariant.1.3 j h)
+          (get_or-set_same l.hs k y 0 (omega arith) ∙ here.is),
+      λ j h. get_or-set_other l.hs k j y 0 (λ q. omega arith) ∙ l.invariant.1.4 j (omega arith),
+    ) in
+    (omega arith, subst (λ (n : ℕ). Filled c.args.hs.now R n (set l.hs k y) y) next filled)
 
 pub returns : goal.returns
 returns c =
-    let r = R c in
+    let R : ℕ = c.args.radius in
+    let r = R in
     let l = c.loop-left in
     record {
       each = λ j.

@@ -10,4 +10,4 @@ returns c =
     c.scaled-2.ensures.is
     c.scaled-3.ensures.is
     c.scaled-4.ensures.is
-    c.Under-at.ensures
+    c.under_at.ensures
