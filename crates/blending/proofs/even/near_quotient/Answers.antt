@@ -2,12 +2,7 @@
 use Prim.Native.Nat.{◌^◌}
 use native.Mathlib.Omega.{arith}
 use Rattle.numbers.proofs.Inverse.{near_quotient_lem}
-use borrow.Author.Rules.{rules}
-use Rattle.blending.proofs.even.near_quotient.Statement.{statement}
-use Rattle.blending.proofs.even.near_quotient.Tie as tie
+use Rattle.blending.proofs.even.near_quotient.Goals as goal
 
-returns : tie.Need-returns
+pub returns : goal.returns
 returns c = near_quotient_lem (2 ^ 56) c.args.x c.args.d c.args.m (omega arith) (omega arith) (omega arith)
-
-pub near_quotient_spec : {M : Type 1} → statement M
-near_quotient_spec = tie.close (tie.spec (λ c. search rules) returns)
