@@ -1,0 +1,38 @@
+-- A query without a refusal has a lawful shape and a pixel in range, which is all that the ratio of a kind asks.
+use mathlib.Core.Path.{◌≡◌}
+use mathlib.Core.Bool.{true}
+use native.Mathlib.Omega.{arith}
+use mir.Syntax.{w16}
+use mir.Val.{to_z, of_z}
+use Rattle.numbers.specs.Coordinate.{in_range}
+use Rattle.limits.specs.Limits.{shape_refusal}
+use Rattle.coverage.proofs.Query.{lawful}
+use Rattle.coverage.proofs.coverage.Goals as goal
+
+-- a query without a refusal: the shape is lawful and the pixel in range
+passed : (c : tie.Else1)
+    → let a = c.before.before.args in
+    (shape_refusal a.shape ≡ 0) × (in_range (to_z w16 (of_z w16 a.x)) ≡ true) × (in_range (to_z w16 (of_z w16 a.y)) ≡ true)
+passed c =
+    let s = c.before.before in
+    lawful s.args.shape s.ranges.x s.ranges.y c.before.query-refusal.ensures (omega arith)
+
+pub line_ratio-requires : goal.line_ratio-requires
+line_ratio-requires c =
+    let q = passed c in
+    (rw c.in-Line.is at q.0, q.1, q.2)
+
+pub disc_ratio-requires : goal.disc_ratio-requires
+disc_ratio-requires c =
+    let q = passed c in
+    (rw c.in-Disc.is at q.0, q.1, q.2)
+
+pub ring_ratio-requires : goal.ring_ratio-requires
+ring_ratio-requires c =
+    let q = passed c in
+    (rw c.in-Ring.is at q.0, q.1, q.2)
+
+pub triangle_ratio-requires : goal.triangle_ratio-requires
+triangle_ratio-requires c =
+    let q = passed c in
+    (rw c.in-Triangle.is at q.0, q.1, q.2)

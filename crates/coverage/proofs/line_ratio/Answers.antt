@@ -1,0 +1,58 @@
+-- Left and right of its columns a line covers nothing; in a column the closed rows have what the line is drawn with, at the pixel's row.
+use mathlib.Core.Bool.{cond}
+use mathlib.Core.Path.{◌≡◌, ◌∙◌}
+use Rattle.numbers.specs.inner.Offset.{offset_of}
+use Rattle.numbers.proofs.Coordinate.{InRange, in_range_lem}
+use Rattle.shapes.specs.inner.Offsets.{point_of}
+use Rattle.shapes.specs.declared.Shape.TheVariants.{Line as line}
+use Rattle.limits.proofs.Limits.{point_kept}
+use Rattle.coverage.specs.Coverage.{drawn_n, drawn_d}
+use Rattle.coverage.proofs.Pixel.{whole-drawn, drawn-left, drawn-right, drawn-inside, across_le}
+use Rattle.coverage.proofs.line_ratio.Goals as goal
+
+pub returns-then-a-f : goal.returns-then-a-f
+returns-then-a-f c =
+    let px : InRange c.args.x = in_range_lem c.args.x c.requires.1 in
+    let py : InRange c.args.y = in_range_lem c.args.y c.requires.2 in
+    let whole : c.whole_of-d.result ≡ drawn_d (line c.args.line) = c.whole_of-d.ensures ∙ whole-drawn c.frame_of-f.ensures in
+    let pixel : c.point_of-p.result ≡ point_of c.args.x c.args.y = point_kept c.fits.x c.fits.y c.point_of-p.ensures in
+    let along : c.either-a.result ≡ cond c.frame_of-f.result.steep (offset_of c.args.y) (offset_of c.args.x) = rw pixel at c.either-a.ensures in
+    let e = drawn-left c.frame_of-f.ensures px py (rw along at c.if-a-f.true) in
+    let d = whole in
+    λ c. record { n = e i; d = d i }
+
+pub returns-then-f-a : goal.returns-then-f-a
+returns-then-f-a c =
+    let px : InRange c.args.x = in_range_lem c.args.x c.requires.1 in
+    let py : InRange c.args.y = in_range_lem c.args.y c.requires.2 in
+    let whole : c.whole_of-d.result ≡ drawn_d (line c.args.line) = c.whole_of-d.ensures ∙ whole-drawn c.frame_of-f.ensures in
+    let pixel : c.point_of-p.result ≡ point_of c.args.x c.args.y = point_kept c.fits.x c.fits.y c.point_of-p.ensures in
+    let along : c.either-a.result ≡ cond c.frame_of-f.result.steep (offset_of c.args.y) (offset_of c.args.x) = rw pixel at c.either-a.ensures in
+    let e = drawn-right c.frame_of-f.ensures px py (rw along at c.if-f-a.true) in
+    let d = whole in
+    λ c. record { n = e i; d = d i }
+
+pub frame_row-g-requires : goal.frame_row-g-requires
+frame_row-g-requires c =
+    let px : InRange c.args.x = in_range_lem c.args.x c.requires.1 in
+    let py : InRange c.args.y = in_range_lem c.args.y c.requires.2 in
+    let pixel : c.point_of-p.result ≡ point_of c.args.x c.args.y = point_kept c.fits.x c.fits.y c.point_of-p.ensures in
+    let across : c.either.result ≡ cond c.frame_of-f.result.steep (offset_of c.args.x) (offset_of c.args.y) = rw pixel at c.either.ensures in
+    let g = c.frame_of-f.ensures in
+    (g.high, rw across (across_le g px py))
+
+pub returns : goal.returns
+returns c =
+    let px : InRange c.args.x = in_range_lem c.args.x c.requires.1 in
+    let py : InRange c.args.y = in_range_lem c.args.y c.requires.2 in
+    let whole : c.whole_of-d.result ≡ drawn_d (line c.args.line) = c.whole_of-d.ensures ∙ whole-drawn c.frame_of-f.ensures in
+    let pixel : c.point_of-p.result ≡ point_of c.args.x c.args.y = point_kept c.fits.x c.fits.y c.point_of-p.ensures in
+    let along : c.either-a.result ≡ cond c.frame_of-f.result.steep (offset_of c.args.y) (offset_of c.args.x) = rw pixel at c.either-a.ensures in
+    let across : c.either.result ≡ cond c.frame_of-f.result.steep (offset_of c.args.x) (offset_of c.args.y) = rw pixel at c.either.ensures in
+    let column = c.crossing_at-c.ensures in
+    let a = c.args in
+    let e : c.row_at.result ≡ drawn_n (line a.line) a.x a.y =
+    rw (c.row_at.ensures, c.rows_of_lem.ensures, column.0, column.1, c.frame_row-g.ensures.0, along, across)
+    (drawn-inside c.frame_of-f.ensures px py (rw along at c.if-a-f.false) (rw along at c.if-f-a.false)) in
+    let d = whole in
+    λ c. record { n = e i; d = d i }
