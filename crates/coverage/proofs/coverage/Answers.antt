@@ -9,30 +9,26 @@ use Rattle.limits.specs.Limits.{shape_refusal}
 use Rattle.coverage.proofs.Query.{lawful}
 use Rattle.coverage.proofs.coverage.Goals as goal
 
--- a query without a refusal: the shape is lawful and the pixel in range
-passed : (c : tie.Else1)
-    → let a = c.before.before.args in
-    (shape_refusal a.shape ≡ 0) × (in_range (to_z w16 (of_z w16 a.x)) ≡ true) × (in_range (to_z w16 (of_z w16 a.y)) ≡ true)
-passed c =
-    let s = c.before.before in
-    lawful s.args.shape s.ranges.x s.ranges.y c.before.query-refusal.ensures (omega arith)
-
 pub line_ratio-requires : goal.line_ratio-requires
 line_ratio-requires c =
-    let q = passed c in
+    let passed : let a = c.args in (shape_refusal a.shape ≡ 0) × (in_range (to_z w16 (of_z w16 a.x)) ≡ true) × (in_range (to_z w16 (of_z w16 a.y)) ≡ true) = lawful c.args.shape c.ranges.x c.ranges.y c.query_refusal-refusal.ensures (omega arith) in
+    let q = passed in
     (rw c.in-Line.is at q.0, q.1, q.2)
 
 pub disc_ratio-requires : goal.disc_ratio-requires
 disc_ratio-requires c =
-    let q = passed c in
+    let passed : let a = c.args in (shape_refusal a.shape ≡ 0) × (in_range (to_z w16 (of_z w16 a.x)) ≡ true) × (in_range (to_z w16 (of_z w16 a.y)) ≡ true) = lawful c.args.shape c.ranges.x c.ranges.y c.query_refusal-refusal.ensures (omega arith) in
+    let q = passed in
     (rw c.in-Disc.is at q.0, q.1, q.2)
 
 pub ring_ratio-requires : goal.ring_ratio-requires
 ring_ratio-requires c =
-    let q = passed c in
+    let passed : let a = c.args in (shape_refusal a.shape ≡ 0) × (in_range (to_z w16 (of_z w16 a.x)) ≡ true) × (in_range (to_z w16 (of_z w16 a.y)) ≡ true) = lawful c.args.shape c.ranges.x c.ranges.y c.query_refusal-refusal.ensures (omega arith) in
+    let q = passed in
     (rw c.in-Ring.is at q.0, q.1, q.2)
 
 pub triangle_ratio-requires : goal.triangle_ratio-requires
 triangle_ratio-requires c =
-    let q = passed c in
+    let passed : let a = c.args in (shape_refusal a.shape ≡ 0) × (in_range (to_z w16 (of_z w16 a.x)) ≡ true) × (in_range (to_z w16 (of_z w16 a.y)) ≡ true) = lawful c.args.shape c.ranges.x c.ranges.y c.query_refusal-refusal.ensures (omega arith) in
+    let q = passed in
     (rw c.in-Triangle.is at q.0, q.1, q.2)
