@@ -1,0 +1,15 @@
+-- Invariant: the first i bytes are pasted, and the list is as long as it was.
+use Prim.Native.Nat.{◌-◌, ◌<◌}
+use native.Mathlib.Numerals.{add-one}
+use native.Mathlib.Omega.{arith}
+use borrow.Author.Rules.{rules}
+use lib.ListN.{length, length-set}
+use lib.Seq.{paste-suc}
+use Rattle.records.proofs.write.put.Goals as goal
+
+pub loop-i-preserved : goal.loop-i-preserved
+loop-i-preserved c =
+    let a = c.args in
+    let l = c.loop-i in
+    let inside : l.i < length a.t3 = search rules in
+    (omega arith, simp length-set l.invariant.1, rw (l.invariant.2, add-one) (paste-suc a.list.now a.place a.t3 l.i 0 (omega arith) inside))
