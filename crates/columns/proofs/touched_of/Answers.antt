@@ -9,9 +9,7 @@ use Rattle.bands.specs.inner.Frame.{row_origin}
 use Rattle.bands.specs.declared.Frame.{Frame}
 use Rattle.columns.specs.declared.layout.Layout.{Layout}
 use Rattle.columns.specs.inner.Columns.{PartFits, Part, TouchedPart, Meets, Misses, edge_in, edge_over}
-use borrow.Author.Rules.{rules}
-use Rattle.columns.proofs.touched_of.Statement.{statement}
-use Rattle.columns.proofs.touched_of.Tie as tie
+use Rattle.columns.proofs.touched_of.Goals as goal
 
 -- u rows from the row origin are at most so high
 from_origin : (l u h : ℕ) → (2 * l * (u - row_origin) ≤ h) ↔ (2 * l * u ≤ 2 * l * row_origin + h)
@@ -57,17 +55,7 @@ module _ (f : Frame) (lay : Layout) {p e a b : ℕ} (fit : PartFits f p e)
         outside = λ k h₁ h₂ o. ⊎_elim (misses_before k h₁) (λ z. inr ((top k).0 (part.behind k z h₂))) o;
       }
 
-returns : tie.Need-returns
+pub returns : goal.returns
 returns c =
-    let three = c.before.before.before in
-    let two = three.before.before in
-    let one = two.before in
-    let s = one.before.before.before in
-    touched s.args.f s.args.lay s.requires.0
-    (rw (three.less3.ensures, one.product.ensures.is, one.before.less.ensures, c.before.product2.ensures.is, two.less2.ensures) at c.part_of.ensures)
-
-pub touched_of_spec : {M : Type 1} → statement M
-touched_of_spec =
-    tie.close
-    (tie.spec (λ c. search rules) (λ c. search rules) (λ c. search rules) (λ c. search rules) (λ c. search rules) (λ c. search rules) (λ c. search rules)
-    (λ c. search rules) (λ c. search rules) (λ c. search rules) (λ c. search rules) returns)
+    touched c.args.f c.args.lay c.requires.0
+    (rw (c.less-2.ensures, c.product-floor.ensures.is, c.less.ensures, c.product.ensures.is, c.less-top.ensures) at c.part_of.ensures)

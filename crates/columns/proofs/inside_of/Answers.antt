@@ -7,9 +7,7 @@ use Rattle.bands.specs.declared.Frame.{Frame}
 use Rattle.bands.proofs.Touched.{row-least, row-less}
 use Rattle.columns.specs.declared.layout.Layout.{Layout}
 use Rattle.columns.specs.inner.Columns.{PartFits, Part, InsidePart}
-use borrow.Author.Rules.{rules}
-use Rattle.columns.proofs.inside_of.Statement.{statement}
-use Rattle.columns.proofs.inside_of.Tie as tie
+use Rattle.columns.proofs.inside_of.Goals as goal
 
 inside : {f : Frame} {lay : Layout} {p e a b : ℕ} → PartFits f p e
     → Part f (2 * f.l * (lay.low + 1 - row_origin)) (2 * f.l * (lay.high - (row_origin + 1))) p e a b
@@ -26,15 +24,7 @@ inside {f} {lay} {a = a} {b = b} fit t =
           };
     }
 
-returns : tie.Need-returns
+pub returns : goal.returns
 returns c =
-    let one = c.before.before.before in
-    let two = one.before.before in
-    inside two.before.before.requires.0
-    (rw (one.product.ensures.is, c.before.product2.ensures.is, two.before.less.ensures, two.less2.ensures) at c.part_of.ensures)
-
-pub inside_of_spec : {M : Type 1} → statement M
-inside_of_spec =
-    tie.close
-    (tie.spec (λ c. search rules) (λ c. search rules) (λ c. search rules) (λ c. search rules) (λ c. search rules) (λ c. search rules) (λ c. search rules)
-    (λ c. search rules) (λ c. search rules) returns)
+    inside c.requires.0
+    (rw (c.product.ensures.is, c.product-2.ensures.is, c.less-above.ensures, c.less-below.ensures) at c.part_of.ensures)
