@@ -11,5 +11,5 @@ pub loop-i-preserved : goal.loop-i-preserved
 loop-i-preserved c =
     let a = c.args in
     let l = c.loop-i in
-    let inside : l.i < length a.t3 = search rules in
-    (omega arith, simp length-set l.invariant.1, rw (l.invariant.2, add-one) (paste-suc a.list.now a.place a.t3 l.i 0 (omega arith) inside))
+    let inside : l.i < length a.bytes = search rules in
+    (omega arith, simp length-set l.invariant.1, rw (l.invariant.2, add-one) (paste-suc a.list.now a.place a.bytes l.i 0 (omega arith) inside))
