@@ -19,11 +19,14 @@ pub returns : goal.returns
 returns c =
     let a = c.args in
     let d = c.draw_column-t in
-    stepped c.requires (ink_of (lights_in a.palette.now) a.s.level a.s.d) c.rows_of-rows.result a.page.now c.rows_of-rows.ensures refl d.result c.advanced.result d.new.0
-    c.advanced.ensures d.ensures.0 d.ensures.1.0 d.ensures.1.1
+    stepped c.requires (ink_of (lights_in a.palette.now) a.s.level a.s.d) c.rows_of-rows.result a.page.now c.rows_of-rows.ensures refl d.result c.advanced.result d.new.page
+    c.advanced.ensures d.ensures.page_after d.ensures.value.0 d.ensures.value.1
 
 pub draw_column-t-requires-clause-reachable : goal.draw_column-t-requires-clause-reachable
-draw_column-t-requires-clause-reachable c = ?
+draw_column-t-requires-clause-reachable c = reaches c.requires
 
 pub draw_column-t-requires-clause-palette : goal.draw_column-t-requires-clause-palette
-draw_column-t-requires-clause-palette c = ?
+draw_column-t-requires-clause-palette c =
+    let e = c.rows_of-rows.ensures in
+    let v = covers c.requires in
+    (c.requires.ready.inked, rw e v.upper, rw e v.middle, rw e v.lower, c.requires.ready.m-is)
