@@ -2,7 +2,7 @@
 use mathlib.Core.Path.{refl}
 use Rattle.lights.specs.inner.Palette.{lights_in}
 use Rattle.page.specs.inner.Ink.{ink_of}
-use Rattle.steps.proofs.Steps.{advances, stepped}
+use Rattle.steps.proofs.Steps.{reaches, covers, advances, stepped}
 use Rattle.steps.proofs.step_clipped.Goals as goal
 
 pub rows_of-rows-requires : goal.rows_of-rows-requires
