@@ -10,10 +10,8 @@ returns-then-end-from c = none-drawn c.args.page.now c.if-end-from.true
 
 pub loop-at-init : goal.loop-at-init
 loop-at-init c =
-    let start : tie.Start invariant_loop decreases_loop = c in
-    let s = start in
     let at = c.first_step-at.ensures in
-    (refl, extended_none c.first_step-at.result s.args.page.now (walk_begins s.pre c.if-end-from.false at.0 at.1 at.2), omega (arith, at.1))
+    (refl, extended_none c.first_step-at.result c.args.page.now (walk_begins c.requires c.if-end-from.false at.0 at.1 at.2), omega (arith, at.1))
 
 pub loop-at-preserved : goal.loop-at-preserved
 loop-at-preserved c =

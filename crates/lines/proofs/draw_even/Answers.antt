@@ -11,17 +11,14 @@ returns-then-end-from c = none-drawn c.args.page.now c.if-end-from.true
 
 pub loop-at-init : goal.loop-at-init
 loop-at-init c =
-    let start : tie.Start invariant_loop decreases_loop = c in
-    let s = start in
     let at = c.first_step-at.ensures in
-    (refl, extended_none c.first_step-at.result s.args.page.now (walk_begins s.pre.0 c.if-end-from.false at.0 at.1 at.2), omega (arith, at.1))
+    (refl, extended_none c.first_step-at.result c.args.page.now (walk_begins c.requires.0 c.if-end-from.false at.0 at.1 at.2), omega (arith, at.1))
 
 pub step_even-at-requires : goal.step_even-at-requires
 step_even-at-requires c =
-    let start : tie.Start invariant_loop decreases_loop = c in
     let x = c.loop-at.invariant.1 in
-    let pre = start.requires in
-    let more : c.loop-at.at.p < start.args.end = omega arith in (
+    let pre = c.requires in
+    let more : c.loop-at.at.p < c.args.end = omega arith in (
       steppable pre.0 c.if-end-from.false c.loop-at.invariant.0 x more,
       pre.1,
       inner-at pre.0 c.if-end-from.false pre.2 x.standing (omega (arith, x.order, c.first_step-at.ensures.1)) more,

@@ -25,30 +25,26 @@ loop-y-init c =
 
 pub cut_of-a-requires : goal.cut_of-a-requires
 cut_of-a-requires c =
-    let start : tie.Start invariant_loop decreases_loop = c in
-    let p = start.requires in
-    let r = p.1.2.rows in
+    let p = c.requires in
+    let r = p.scaled.2.rows in
     let i = c.loop-y.invariant in
-    (p.0.2, r.below c.loop-y.y i.least (omega arith), r.above c.loop-y.y i.least (omega arith))
+    (p.palette.2, r.below c.loop-y.y i.least (omega arith), r.above c.loop-y.y i.least (omega arith))
 
 pub cut_of-b-requires : goal.cut_of-b-requires
 cut_of-b-requires c =
-    let start : tie.Start invariant_loop decreases_loop = c in
-    let p = start.requires in
-    let r = p.1.3.rows in
+    let p = c.requires in
+    let r = p.scaled.3.rows in
     let i = c.loop-y.invariant in
-    (p.0.3, r.below c.loop-y.y i.least (omega arith), r.above c.loop-y.y i.least (omega arith))
+    (p.palette.3, r.below c.loop-y.y i.least (omega arith), r.above c.loop-y.y i.least (omega arith))
 
 pub overflow_add-touched : goal.overflow_add-touched
 overflow_add-touched c =
-    let start : tie.Start invariant_loop decreases_loop = c in
-    let law = start.requires.0.1 in
+    let law = c.requires.palette.1 in
     omega (arith, drawn-count law c.loop-y.invariant.drawn, drawn-count law c.draw_row-touched.ensures)
 
 pub loop-y-preserved : goal.loop-y-preserved
 loop-y-preserved c =
-    let start : tie.Start invariant_loop decreases_loop = c in
-    let a = start.args in
+    let a = c.args in
     let i = c.loop-y.invariant in
     record {
       least = omega (arith, i.least);

@@ -12,20 +12,17 @@ loop-x-init c = blended_start c.requires.0.order
 
 pub put-requires : goal.put-requires
 put-requires c =
-    let start : tie.Start invariant_loop decreases_loop = c in
-    let fits : let a = start.args in let l = c.loop-x in l.x < a.end → (a.y * a.view.w + l.x < length l.page) × (l.x ≤ 1024) × (a.y * a.view.w + l.x ≤ 1048576) × (l.touched ≤ 1048576) = byte_in c.loop-x.invariant start.args.view start.requires.0 refl in
-    let s = start in
-    let f = s.pre.1 in (
+    let fits : let a = c.args in let l = c.loop-x in l.x < a.end → (a.y * a.view.w + l.x < length l.page) × (l.x ≤ 1024) × (a.y * a.view.w + l.x ≤ 1048576) × (l.touched ≤ 1048576) = byte_in c.loop-x.invariant c.args.view c.requires.0 refl in
+    let f = c.requires.1 in (
       (fits (omega arith)).0,
-      s.pre.0.palette_is,
-      record { some = whole-some s.args.cut f; part = c.left_of-n.ensures.1; most = omega (arith, f.whole-most) },
-      s.pre.2,
+      c.requires.0.palette_is,
+      record { some = whole-some c.args.cut f; part = c.left_of-n.ensures.1; most = omega (arith, f.whole-most) },
+      c.requires.2,
     )
 
 pub overflow_add-touched : goal.overflow_add-touched
 overflow_add-touched c =
-    let start : tie.Start invariant_loop decreases_loop = c in
-    let fits : let a = start.args in let l = c.loop-x in l.x < a.end → (a.y * a.view.w + l.x < length l.page) × (l.x ≤ 1024) × (a.y * a.view.w + l.x ≤ 1048576) × (l.touched ≤ 1048576) = byte_in c.loop-x.invariant start.args.view start.requires.0 refl in
+    let fits : let a = c.args in let l = c.loop-x in l.x < a.end → (a.y * a.view.w + l.x < length l.page) × (l.x ≤ 1024) × (a.y * a.view.w + l.x ≤ 1048576) × (l.touched ≤ 1048576) = byte_in c.loop-x.invariant c.args.view c.requires.0 refl in
     omega (arith, fits (omega arith), c.touched-touched.ensures)
 
 pub loop-x-preserved : goal.loop-x-preserved
@@ -34,6 +31,4 @@ loop-x-preserved c =
 
 pub returns : goal.returns
 returns c =
-    let start : tie.Start invariant_loop decreases_loop = c in
-    let s = start in
-    blended_end c.loop-x.invariant (omega arith) refl s.args.view s.pre.0 refl
+    blended_end c.loop-x.invariant (omega arith) refl c.args.view c.requires.0 refl
