@@ -1,7 +1,7 @@
 -- Laws of blending codes, and of the division that it takes.
 use mathlib.Core.Path.{◌≡◌, ◌∙◌, ap}
 use Prim.Native.Nat.{ℕ, ◌+◌, ◌*◌, ◌-◌, ◌^◌, ◌/◌, ◌≤◌, ◌<◌}
-use native.Mathlib.Nat.{mul-le-mul, mul-le-mul_right, div-lt_iff_lt-mul, sub-zero, sub_self}
+use native.Mathlib.Nat.{mul-le-mul, mul-le-mul_right, sub-zero, sub_self}
 use native.Mathlib.Omega.{arith}
 use Rattle.numbers.specs.Nearest.{nearest}
 use Rattle.numbers.specs.Fraction.{◌over◌, Within}
@@ -42,15 +42,9 @@ code-within u v n d h =
 
 -- ---- its division
 
-pub dividend_le : (u v n d : ℕ) → u ≤ 255 → v ≤ 255 → n ≤ d → 2 * (u * (d - n) + v * n) + d ≤ 511 * d
-dividend_le u v n d hu hv h = omega (arith, weighted_le u v n d hu hv h)
-
 pub blend_quotient : (u v n d x : ℕ) → Dividend u v n d x → x / (2 * d) ≡ code_blend u v n d
 unfolding code_blend nearest
 blend_quotient u v n d x h = ap (λ (y : ℕ). y / (2 * d)) h.is
-
-pub quotient_byte : (d x : ℕ) → 0 < d → x ≤ 511 * d → x / (2 * d) < 256
-quotient_byte d x some h = (div-lt_iff_lt-mul {k = 2 * d} {x = x} {y = 256} (omega arith)).1 (omega arith)
 
 -- ---- a quotient by a reciprocal
 

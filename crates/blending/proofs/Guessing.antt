@@ -2,11 +2,10 @@
 use mathlib.Core.List.{List}
 use mathlib.Core.Logic.{⊎_elim}
 use mathlib.Core.Path.{◌≡◌, sym}
-use Prim.Native.Nat.{ℕ, suc, ◌+◌, ◌*◌, ◌-◌, ◌^◌, ◌/◌, ◌≤◌, ◌<◌}
+use Prim.Native.Nat.{ℕ, suc, ◌+◌, ◌*◌, ◌^◌, ◌/◌, ◌≤◌, ◌<◌}
 use native.Mathlib.Nat.{mul-le-mul_right, mul-le-mul_left, le_of_mul-le-mul_right, le-div_iff_mul-le, lt-mul-div-succ, div-mul-le_self}
 use native.Mathlib.Omega.{arith}
 use lib.Seq.{get_or-take}
-use Rattle.numbers.proofs.Order.{lt_or_le}
 use Rattle.lights.specs.Lights.{light_of}
 use Rattle.blending.specs.Blend.{blended_light, blend}
 use Rattle.lights.specs.inner.Fit.{Rising}
@@ -18,22 +17,6 @@ use Rattle.blending.proofs.Blend.{weighted_le}
 use Rattle.lights.proofs.Guesses.{reach_most}
 
 -- ---- tests
-
--- a test at the middle of two middles tells in which half x over d lies
-pub look_is : (light : ℕ → ℕ) (x d low step y t : ℕ) → Between light x d low (low + 2 * step) → low + 2 * step ≤ 256 → y ≡ middle light (low + step) * d
-    → AtMost y x t → Between light x d (low + step * t) (low + step * t + step) × (low + step * t + step ≤ 256)
-look_is light x d low step y t p most e test = ⊎_elim up down test
-  where
-    up : (y ≤ x) × (t ≡ 1) → Between light x d (low + step * t) (low + step * t + step) × (low + step * t + step ≤ 256)
-    up h =
-        let s : low + step * t ≡ low + step = rw h.1 (omega arith) in
-        let w : low + step + step ≡ low + 2 * step = omega arith in
-        rw s (record { low = omega arith; high = rw w p.high }, omega arith)
-
-    down : (x < y) × (t ≡ 0) → Between light x d (low + step * t) (low + step * t + step) × (low + step * t + step ≤ 256)
-    down h =
-        let s : low + step * t ≡ low = rw h.1 (omega arith) in
-        rw s (record { low = p.low; high = omega arith }, omega arith)
 
 -- the two middles after that of guess a
 module _ (light : ℕ → ℕ) (rising : Rising light) (a x d y z : ℕ) (most : a ≤ 253) (ey : y ≡ middle light (a + 1) * d) (ez : z ≡ middle light (a + 2) * d) where
@@ -61,15 +44,6 @@ module _ (light : ℕ → ℕ) (rising : Rising light) (a x d y z : ℕ) (most :
           let e : a + 0 ≡ a = omega arith in
           at 0 (omega arith) (record { most = omega arith; low = rw e low; high = λ s. rw e (omega arith) })
 
--- where the third is not passed, they tell the code
-pub code_is : (light : ℕ → ℕ) (x d a r : ℕ) → NextTwo light x d a r → x < middle light (a + 3) * d → Between light x d (a + r) (a + r + 1)
-code_is light x d a r next h = ⊎_elim (λ w. record { low = next.low; high = next.high w }) last (lt_or_le r 2)
-  where
-    last : 2 ≤ r → Between light x d (a + r) (a + r + 1)
-    last w =
-        let e : a + r + 1 ≡ a + 3 = omega (arith, next.most) in
-        record { low = next.low; high = rw e h }
-
 -- ---- what is left of a quotient does not count, because middles are whole numbers
 
 pub whole-low : (light : ℕ → ℕ) (x d g : ℕ) → 0 < d → middle light g * d ≤ x → middle light g * 1 ≤ x / d
@@ -87,10 +61,6 @@ whole-between light x d a b some h =
     }
 
 -- ---- the blend
-
--- twice the blended light is at most twice the greatest light
-pub doubled_most : (a b n d : ℕ) → a ≤ 65535 → b ≤ 65535 → n ≤ d → 2 * (a * (d - n) + b * n) ≤ 131070 * d
-doubled_most a b n d ha hb h = omega (arith, weighted_le a b n d 65535 ha hb h)
 
 module _ (p : List ℕ) (rising : Rising (light_of p)) where
   -- twice the blended light times a scale fits 64 bits

@@ -2,26 +2,23 @@
 use mathlib.Core.Path.{◌≡◌, fun_ext}
 use mathlib.Core.Logic.{inl, inr}
 use mathlib.Core.List.{List}
-use Prim.Native.Nat.{ℕ, ◌+◌, ◌-◌, ◌≤◌, ◌<◌}
-use native.Mathlib.Nat.{le_trans}
-use native.Mathlib.Omega.{arith}
+use Prim.Native.Nat.{ℕ, ◌+◌, ◌≤◌, ◌<◌}
 use lib.ListN.{length}
-use Rattle.numbers.specs.inner.Offset.{origin, offset_most}
+use Rattle.numbers.specs.inner.Offset.{origin}
 use Rattle.limits.specs.Limits.{radius_most}
 use Rattle.page.specs.inner.Paint.{in_view, Lawful, Drawn}
 use Rattle.page.specs.declared.View.{View}
 use Rattle.page.proofs.Clip.{Inside, Outside, left_of_lem, right_of, above, below, clip_shrink, clip_zero}
 use Rattle.page.proofs.Drawn.{drawn-none, drawn_ext}
 use Rattle.chords.specs.Circle.{height_of}
-use Rattle.chords.specs.inner.Circle.{apart}
 use Rattle.chords.proofs.Height.{height-most, height-falls, height-rises}
 use Rattle.rings.specs.inner.Heights.{at, Heights, Circles}
-use Rattle.rings.specs.inner.Placed.{between_on, Reached, Inked, Placed}
+use Rattle.rings.specs.inner.Placed.{between_on}
 use Rattle.circles.specs.inner.Row.{boxed}
 use Rattle.rings.specs.declared.Ring.{Ring}
 use Rattle.rings.proofs.Chords.{between_far}
-use Rattle.page.proofs.Clamp.{clamped_low, clamped_high, clamped-rises, before-clamped, from_clamped, between-clamped}
-use Rattle.circles.proofs.Apart.{apart-near, apart-left, apart-right}
+use Rattle.page.proofs.Clamp.{clamped_low, clamped_high, before-clamped, from_clamped}
+use Rattle.circles.proofs.Apart.{apart-left, apart-right}
 
 -- ---- the heights of circles
 
@@ -62,32 +59,6 @@ module _ (view : View) (ring : Ring) {size : ℕ} (law : Lawful view size) where
 
   abbrev box : View
   box = boxed view ring
-
-  boxed_lawful : Lawful box size
-  boxed_lawful =
-      record {
-        w-least = law.w-least;
-        w-most = law.w-most;
-        h-most = law.h-most;
-        room = law.room;
-        x-order = clamped-rises view.x0 view.x1 (ring.cx - R) (ring.cx + R) (omega arith);
-        x-most = le_trans (clamped_high view.x0 view.x1 (ring.cx + R)) law.x-most;
-        y-order = clamped-rises view.y0 view.y1 (ring.cy - R) (ring.cy + R) (omega arith);
-        y-most = le_trans (clamped_high view.y0 view.y1 (ring.cy + R)) law.y-most;
-      }
-
-  boxed-near : Reached box ring
-  boxed-near =
-      record {
-        columns = λ x p q. near ring.cx (x + origin) (between-clamped _ _ (ring.cx - R) (ring.cx + R) x law.x-order p q);
-        rows = λ y p q. near ring.cy (y + origin) (between-clamped _ _ (ring.cy - R) (ring.cy + R) y law.y-order p q);
-      }
-    where
-      near : (c x : ℕ) → (c - R ≤ x) × (x < c + R) → apart c x < R
-      near c x b = apart-near c R x b.0 b.1
-
-  pub boxed-placed : {palette : List ℕ} → Inked palette ring → ring.cx ≤ offset_most → ring.cy ≤ offset_most → Placed palette box size ring
-  boxed-placed k c d = record { inked = k; lawful = boxed_lawful; near = boxed-near; across = c; down = d }
 
   module _ (Z : ℕ → ℕ) where
     boxed-same : (x y : ℕ) → in_view box (between_on (height_of R) Z ring) x y ≡ in_view view (between_on (height_of R) Z ring) x y

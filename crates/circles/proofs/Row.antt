@@ -23,10 +23,6 @@ use Rattle.rings.specs.declared.Widths.{Widths}
 use Rattle.page.proofs.Clamp.{clamped_low, clamped_high, clamped-rises, before-clamped, from_clamped, between-clamped}
 use Rattle.circles.proofs.Apart.{apart-near, apart-left, apart-right}
 
--- a band without its left edge
-pub band_from : {Y Z : ℕ → ℕ} {view : View} {ring : Ring} {y p q r s : ℕ} → Band Y Z view ring y p q r s → Band Y Z view ring y q q r s
-band_from b = record { row = b.row; order = (omega arith, omega arith, omega arith, omega arith, omega arith); whole = b.whole }
-
 -- a row whose widths are known
 module _ {Y Z : ℕ → ℕ} {view : View} {size : ℕ} (ring : Ring) {row : Widths} (y : ℕ)
     (law : Lawful view size)
@@ -56,12 +52,6 @@ module _ {Y Z : ℕ → ℕ} {view : View} {size : ℕ} (ring : Ring) {row : Wid
               let i = within c d x p q in
               m.whole-all _ (outside (x + origin) i.0 i.1) (apart-near ring.cx row.whole (x + origin) (omega arith) (omega arith));
         }
-
-    -- of a row that does not meet the inner circle
-    pub solid_band : row.inner ≡ 0
-        → Band Y Z view ring y
-        (left_of view ring row.outer) (left_of view ring row.whole) (right_of view ring row.whole) (right_of view ring row.outer)
-    solid_band none = band _ _ _ _ (omega arith) (omega arith) (omega arith) (omega arith) (omega arith) (λ x p q. omega arith)
 
     -- to the left and to the right of the hole
     pub left-band : Band Y Z view ring y

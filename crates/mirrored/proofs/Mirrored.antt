@@ -27,10 +27,6 @@ join_swap j x y = ⊎_elim inr inl (j x y)
 
 -- ---- a row by distances from the centre's column
 
--- a clip that has what is nearer than d has what is nearer still
-pub sides_nearer : {view : View} {ring : Ring} {y d : ℕ} (e : ℕ) → e ≤ d → Sides view ring y d → Sides view ring y e
-sides_nearer e h s = record { row = s.row; left = omega (arith, s.left); right = omega (arith, s.right) }
-
 -- cut at distance a
 pub sides_cut : (ring : Ring) (n : ℕ → ℕ → ℕ) (y p q a : ℕ) → p ≤ a → a ≤ q → Join (row_sides ring n y p a) (row_sides ring n y a q) (row_sides ring n y p q)
 sides_cut ring n y p q a h k x z = clip-columns p y q (y + 1) a n h k (apart ring.cx (x + origin)) z
@@ -186,10 +182,6 @@ module _ {view : View} {ring : Ring} (n : ℕ → ℕ → ℕ) {b y z d : ℕ} (
               mirror : apart ring.cy (r + origin) ≡ b → (r + origin < ring.cy) ⊎ (ring.cy ≤ r + origin) → ⊥
               mirror is (inl k) = f (omega (arith, rows.upper_is))
               mirror is (inr k) = e (omega (arith, rows.lower-is))
-
-pub quarters_nearer : {view : View} {ring : Ring} {b y z d : ℕ} (e : ℕ) → e ≤ d → Quarters view ring b y z d → Quarters view ring b y z e
-quarters_nearer e h q =
-    record { lower = sides_nearer e h q.lower; upper = sides_nearer e h q.upper; lower-is = q.lower-is; upper_is = q.upper_is }
 
 -- ---- a ring by both distances
 

@@ -11,22 +11,13 @@ use Rattle.page.specs.inner.Paint.{touch, clipped, Lawful, Drawn}
 use Rattle.page.specs.declared.View.{View}
 use Rattle.page.proofs.Clip.{Inside, Outside, left_of_lem, right_of, above, below, in_or_out, clip_in, clip_out, clip_ext, Either, Join}
 use Rattle.page.proofs.Drawn.{drawn-none, drawn_ext, drawn_join, drawn_one, drawn-length}
-use Rattle.page.proofs.Paint.{row-end}
 use Rattle.chords.specs.inner.Circle.{apart}
-use Rattle.rings.specs.inner.Placed.{Inked, Ready}
 use Rattle.rings.specs.inner.Heights.{between}
 use Rattle.mirrored.specs.inner.Mirrored.{dotted, paired, Sides, row_sides, between_in, Quarters, quartered}
 use Rattle.rings.specs.declared.Ring.{Ring}
-use Rattle.mirrored.proofs.Mirrored.{sides_nearer, sides_cut, sides_none, lower-at, upper-at, rows_join, quarters_cut, quarters_none}
+use Rattle.mirrored.proofs.Mirrored.{sides_cut, sides_none, lower-at, upper-at, rows_join, quarters_cut, quarters_none}
 
 -- ---- the two pixels of a row at one distance
-
--- the right one lies on the page, and the left one before it
-pub pair_inside : {view : View} {size : ℕ} {ring : Ring} {y : ℕ} (a : ℕ) → Lawful view size → Sides view ring y (a + 1)
-    → y * view.w + (ring.cx - origin) + a < size
-pair_inside {view} {y = y} a law sides =
-    let row = row-end y view.h view.w (omega (arith, sides.row.1, law.y-most)) in
-    omega (arith, row, sides.right, law.x-most, law.room)
 
 module _ {view : View} {size : ℕ} {ring : Ring} (law : Lawful view size) (n : ℕ → ℕ → ℕ) (y a : ℕ) (sides : Sides view ring y (a + 1)) where
   -- the column of the centre, and those of the two pixels
@@ -166,22 +157,6 @@ module _ {view : View} {ink : ℕ → ℕ → ℕ} {part : ℕ → ℕ → ℕ �
         few = omega (arith, done.few);
         drawn = rw (← count) (drawn_join (part (a + 1)) join done.drawn drawn);
       }
-
-  -- at the last distance
-  pub loop_end : {m : List ℕ} {touched a : ℕ} → DrawnTo view ink part k from end l m touched a → end ≤ a
-      → Drawn view.w view.h ink (part end) l m (k * touched)
-  loop_end {touched = touched} {a} done h =
-      let e : a ≡ end = omega (arith, done.most) in
-      rw e at done.drawn
-
--- what is needed to draw a pair at distance a
-pub pair_ready : {palette outer inner : List ℕ} {view : View} {ring : Ring} {size y end a n : ℕ}
-    → Ready palette view size ring outer inner
-    → Sides view ring y end
-    → a < end
-    → n ≤ 512
-    → Inked palette ring × Lawful view size × Sides view ring y (a + 1) × (n ≤ 512)
-pair_ready {a = a} ready sides h most = (ready.placed.inked, ready.placed.lawful, sides_nearer (a + 1) (omega arith) sides, most)
 
 -- ---- on both sides of a row
 

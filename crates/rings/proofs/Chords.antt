@@ -56,9 +56,6 @@ chords_clear {Y} hs a b h = both (Y (min a b)) (Y (min a b + 1)) (max a b) (hs.f
 
 -- ---- a row
 
-pub heights_wider : {Y : ℕ → ℕ} {R S : ℕ} → R ≤ S → Heights Y R → Heights Y S
-heights_wider h hs = record { falls = hs.falls; most = λ k. omega (arith, hs.most k) }
-
 -- i pixels of the row at distance b are whole, and none from o on is covered
 pub record Reach (Y : ℕ → ℕ) (b i o : ℕ) : Type 0 where
   pub whole : (a : ℕ) → a < i → chords Y a b ≡ 512
