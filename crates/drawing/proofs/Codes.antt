@@ -8,6 +8,7 @@ use lib.Dec.{ltb}
 use lib.ListN.{length, get_or}
 use Rattle.numbers.specs.Fraction.{Frac}
 use Rattle.lights.specs.Codes.{codes}
+use Rattle.blending.specs.Blend.{blend}
 use Rattle.blending.proofs.Blend.{blend-byte}
 use Rattle.lights.proofs.Codes.{code-light, codes-fit}
 use Rattle.page.proofs.Over.{over_ext}
@@ -37,7 +38,7 @@ Known d (refused f place) l = Unit {0}
 after_byte : (u : ℕ) (ts : List Touch) → u ≤ 255 → byte_after codes u ts ≤ 255
 unfolding byte_after after
 after_byte u [] h = h
-after_byte u (t ∷ ts) h = after_byte _ ts (blend-byte codes u t.level t.drawn.num t.drawn.den)
+after_byte u (t ∷ ts) h = after_byte (blend codes u t.level t.drawn.num t.drawn.den) ts (blend-byte codes u t.level t.drawn.num t.drawn.den)
 
 -- a byte's light is the byte, and the exact blend and the bound are those of codes
 byte_in_codes : (u b : ℕ) (ts : List Touch) → u ≤ 255 → b ≤ 255 → AllSound ts → ByteBounded codes u b ts → CodeBounded u b ts
