@@ -1,6 +1,5 @@
 -- The search from t finds what the search from y does.
 use mathlib.Core.Path.{◌≡◌, sym, ◌∙◌}
-use Prim.Native.Nat.{◌-◌}
 use native.Mathlib.Omega.{arith}
 use Rattle.chords.proofs.Height.{half_root_none, half_root_next, half_root_here}
 use Rattle.chords.proofs.half_root.Goals as goal

@@ -1,5 +1,5 @@
 -- Half a root is at least the middle just where the square of the odd number below twice the middle is at most m.
-use Prim.Native.Nat.{◌+◌, ◌-◌, ◌/◌}
+use Prim.Native.Nat.{◌+◌, ◌/◌}
 use native.Mathlib.Omega.{arith}
 use Rattle.chords.proofs.Chord.{narrowed_up, narrowed_down}
 use Rattle.chords.proofs.halved.Goals as goal

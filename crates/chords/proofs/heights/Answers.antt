@@ -1,25 +1,16 @@
 -- The heights before k = radius - left are held, the rest are 0, and y is not below the next one.
 use mathlib.Core.Path.{◌≡◌, sym, ◌∙◌, subst}
 use mathlib.Core.Logic.{⊎_elim}
-use mathlib.Core.List.{List}
 use Prim.Native.Nat.{ℕ, ◌+◌, ◌-◌, ◌*◌, ◌≤◌, ◌<◌}
 use native.Mathlib.Omega.{arith}
-use lib.ListN.{length, get_or, set, length-set}
+use lib.ListN.{get_or, set, length-set}
 use lib.Seq.{get_or-set_same, get_or-set_other}
 use borrow.Author.Count.{below_more}
 use Rattle.numbers.proofs.Order.{lt_or_le}
 use Rattle.chords.specs.Circle.{half_root, height_of}
 use Rattle.chords.proofs.Height.{half_root_le, half_root_from, half_root_high, height_beyond}
+use Rattle.chords.proofs.heights.Invariants.{Filled}
 use Rattle.chords.proofs.heights.Goals as goal
-
--- the heights before k are held in what was an array of zeros, the others are 0, and y is not below the height at k
-abbrev Filled : List ℕ → ℕ → ℕ → List ℕ → ℕ → Type 0
-Filled zeros R k hs y =
-    (y ≤ 256 * R)
-    × (262144 * (R * R - k * k) < (2 * y + 1) * (2 * y + 1))
-    × (length hs ≡ length zeros)
-    × ((j : ℕ) → j < k → get_or hs j 0 ≡ height_of R j)
-    × ((j : ℕ) → k ≤ j → get_or hs j 0 ≡ 0)
 
 -- next is the height at k: not above y, and not below the height at k + 1
 record Found (R k y next : ℕ) : Type 0 where

@@ -7,7 +7,7 @@ use Rattle.chords.specs.Circle.{height_of}
 use Rattle.chords.proofs.heights.Given as goal
 
 -- the heights before k are held in what was an array of zeros, the others are 0, and y is not below the height at k
-abbrev Filled : List ℕ → ℕ → ℕ → List ℕ → ℕ → Type 0
+abbrev pub Filled : List ℕ → ℕ → ℕ → List ℕ → ℕ → Type 0
 Filled zeros R k hs y =
     (y ≤ 256 * R)
     × (262144 * (R * R - k * k) < (2 * y + 1) * (2 * y + 1))

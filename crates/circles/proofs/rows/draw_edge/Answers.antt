@@ -14,10 +14,11 @@ use Rattle.circles.proofs.rows.draw_edge.Goals as goal
 
 pub returns : goal.returns
 returns c =
-    let inside : c.args.y * c.args.view.w + c.args.view.w ≤ c.args.view.h * c.args.view.w = row-end c.args.y c.args.view.h c.args.view.w (omega arith) in
-    let lent : let first = c.args.y * c.args.view.w + c.args.from in let last = c.args.y * c.args.view.w + c.args.end in length (take (last - first) (drop first c.args.page.now)) ≡ c.args.end - c.args.from = let a = c.args in
-    mid_len (a.y * a.view.w + a.from) (a.y * a.view.w + a.end) a.page.now (omega (arith, inside)) ∙ omega arith in
     let a = c.args in
+    let first = a.y * a.view.w + a.from in
+    let last = a.y * a.view.w + a.end in
+    let inside : a.y * a.view.w + a.view.w ≤ a.view.h * a.view.w = row-end a.y a.view.h a.view.w (omega arith) in
+    let lent : length (take (last - first) (drop first a.page.now)) ≡ a.end - a.from = mid_len first last a.page.now (omega (arith, inside)) ∙ omega arith in
     let b = c.apart_of-b.ensures in
     let e = c.blend_edge.ensures in
     drawn_stretch a.view.w a.view.h (ink_of (lights_in a.palette.now) a.ring.level 512) a.from a.end a.y
