@@ -1,11 +1,13 @@
 // Reads a drawing list from standard input and prints its page as a plain PGM, or the refusal.
 #![tactic(auto)]
 
-ghost use Rattle.std.specs.Prelude.{◌≡◌, ◌+◌, ◌*◌, ◌≤◌, length, take};
+ghost use Rattle.std.specs.Prelude.{◌≡◌, ◌+◌, ◌*◌, ◌≤◌, length, take, OnOk};
+ghost use Rattle.std.specs.Io.KnownBytes.{Appends};
 ghost use Rattle.print.specs.Printed.{list_text, outcome_text};
 
 use drawing::{Answer, Outcome};
-use libc::{STDIN_FILENO, STDOUT_FILENO};
+use std::io;
+use std::io::{Read, Write};
 
 // Puts what is printed for what came of a list; hands back its length.
 fn put_outcome(out: &mut [u8], page: &[u8], outcome: Outcome) -> usize
@@ -30,20 +32,21 @@ fn put_list(out: &mut [u8; 262384], page: &mut [u8; 65536], list: &[u8]) -> usiz
 }
 
 // Writes the first n bytes.
-fn write_first(out: &[u8; 262384], n: usize)
+fn write_first<W: Write>(to: &mut W, out: &[u8; 262384], n: usize) -> io::Result<()>
     requires { n ≤ 262384 }
+    ensures { OnOk result (Appends (W.contents to.old) (W.contents to.new) (take n out.now)) }
 {
     let all = &out[..];
-    io::write_all(STDOUT_FILENO, &all[..n]);
+    to.write_all(&all[..n])
 }
 
-fn main() {
+fn main(rt: HostRuntime) -> io::Result<()> {
     // one byte more than a list may have, so that a longer one is told
-    let mut list = [0u8; 65537];
+    let mut list = Vec::with_capacity(rt.alloc(), 65_537)?;
+    rt.reader().take(65_537).read_to_end(&mut list)?;
     let mut page = [0u8; 65536];
     // four bytes for each level, and 240 for what stands before them
     let mut out = [0u8; 262384];
-    let n = io::read_full(STDIN_FILENO, &mut list);
-    let end = put_list(&mut out, &mut page, &list[..n]);
-    write_first(&out, end);
+    let end = put_list(&mut out, &mut page, &list);
+    write_first(&mut io::writer(&rt), &out, end)
 }
