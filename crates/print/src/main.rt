@@ -1,11 +1,14 @@
 // Reads a drawing list from standard input and prints its page as a plain PGM, or the refusal.
 #![tactic(auto)]
 
-ghost use Rattle.std.specs.Prelude.{◌≡◌, ◌+◌, ◌*◌, ◌≤◌, length, take};
+ghost use Rattle.std.specs.Prelude.{◌≡◌, ◌+◌, ◌*◌, ◌≤◌, length, take, replicate, OnOk, IfOk, IfSome};
+ghost use Rattle.std.specs.Io.KnownBytes.{Appends};
 ghost use Rattle.print.specs.Printed.{list_text, outcome_text};
 
 use drawing::{Answer, Outcome};
-use libc::{STDIN_FILENO, STDOUT_FILENO};
+use std::alloc::Global;
+use std::io;
+use std::io::{Read, Write};
 
 // Puts what is printed for what came of a list; hands back its length.
 fn put_outcome(out: &mut [u8], page: &[u8], outcome: Outcome) -> usize
@@ -30,20 +33,42 @@ fn put_list(out: &mut [u8; 262384], page: &mut [u8; 65536], list: &[u8]) -> usiz
 }
 
 // Writes the first n bytes.
-fn write_first(out: &[u8; 262384], n: usize)
+fn write_first<W: Write>(to: &mut W, out: &[u8; 262384], n: usize) -> io::Result<()>
     requires { n ≤ 262384 }
+    ensures { OnOk result (Appends (W.contents to.old) (W.contents to.new) (take n out.now)) }
 {
     let all = &out[..];
-    io::write_all(STDOUT_FILENO, &all[..n]);
+    to.write_all(&all[..n])
 }
 
-fn main() {
-    // one byte more than a list may have, so that a longer one is told
-    let mut list = [0u8; 65537];
+// Reads a list; of a longer one a byte more than a list may have, so that it is told.
+fn read_list<R: Read + Drop>(alloc: Global, from: R) -> io::Result<Vec<u8>>
+    ensures { IfOk result (λ list. IfSome (R.remaining from) (λ bytes. list.items ≡ take 65537 bytes)) }
+{
+    let mut list = Vec::with_capacity(alloc, 65_537)?;
+    from.take(65_537).read_to_end(&mut list)?;
+    Ok(list)
+}
+
+// Draws a list on a page of zeros and writes what is printed for it.
+fn write_list<W: Write>(to: &mut W, list: &[u8]) -> io::Result<()>
+    ensures { OnOk result (Appends (W.contents to.old) (W.contents to.new) (list_text list.now (replicate 65536 0))) }
+{
     let mut page = [0u8; 65536];
     // four bytes for each level, and 240 for what stands before them
     let mut out = [0u8; 262384];
-    let n = io::read_full(STDIN_FILENO, &mut list);
-    let end = put_list(&mut out, &mut page, &list[..n]);
-    write_first(&out, end);
+    let end = put_list(&mut out, &mut page, list);
+    write_first(to, &out, end)
+}
+
+// Writes what is printed for the list that a reader has.
+fn print_list<R: Read + Drop, W: Write>(alloc: Global, from: R, to: &mut W) -> io::Result<()>
+    ensures { OnOk result (IfSome (R.remaining from) (λ bytes. Appends (W.contents to.old) (W.contents to.new) (list_text bytes (replicate 65536 0)))) }
+{
+    let list = read_list(alloc, from)?;
+    write_list(to, &list)
+}
+
+fn main(rt: HostRuntime) -> io::Result<()> {
+    print_list(rt.alloc(), rt.reader(), &mut io::writer(&rt))
 }
