@@ -56,7 +56,7 @@ pub fn write_record<'s, 'a>(writer: &'s mut Writer<'a>, rec: Record) -> u8
 }
 
 // The answers for a header and for one record behind it, and the place that is reached.
-#[derive(Drop)]
+#[derive(Clone, Copy)]
 pub struct Started {
     pub header: u8,
     pub rec: u8,

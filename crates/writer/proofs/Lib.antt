@@ -1,3 +1,0 @@
--- What the walks share.
-pub mod Lending
-pub mod Thin
