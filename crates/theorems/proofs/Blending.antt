@@ -27,7 +27,7 @@ blending =
       blend-even = λ lights a b e. blend-even lights a b (fit_facts lights e);
       code-within = code-within;
       nearest-is = rounding.nearest-is;
-      nearest_only = rounding.nearest-unique;
+      nearest_only = rounding.nearest_unique;
       widest-codes = widest-codes;
       span_codes = span_codes;
     }

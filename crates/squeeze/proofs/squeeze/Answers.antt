@@ -19,21 +19,21 @@ returns-in-Refused-clause-value c =
     let list : List ℕ = c.args.list.now in
     let out = c.args.out.now in
     let claim = refused-claim list out _ _ (sym c.in-Refused.is ∙ c.check_without_page-checked.ensures) in
-    ((claim.0, (claim.1, keeps_by list out out claim.0 claim.1))).0
+    claim.0
 
 pub returns-in-Refused-clause-out_after : goal.returns-in-Refused-clause-out_after
 returns-in-Refused-clause-out_after c =
     let list : List ℕ = c.args.list.now in
     let out = c.args.out.now in
     let claim = refused-claim list out _ _ (sym c.in-Refused.is ∙ c.check_without_page-checked.ensures) in
-    ((claim.0, (claim.1, keeps_by list out out claim.0 claim.1))).1
+    claim.1
 
 pub returns-in-Refused-clause-keeps_by : goal.returns-in-Refused-clause-keeps_by
 returns-in-Refused-clause-keeps_by c =
     let list : List ℕ = c.args.list.now in
     let out = c.args.out.now in
     let claim = refused-claim list out _ _ (sym c.in-Refused.is ∙ c.check_without_page-checked.ensures) in
-    ((claim.0, (claim.1, keeps_by list out out claim.0 claim.1))).2
+    keeps_by list out out claim.0 claim.1
 
 pub returns-in-Accepted-clause-value : goal.returns-in-Accepted-clause-value
 returns-in-Accepted-clause-value c =
@@ -42,7 +42,7 @@ returns-in-Accepted-clause-value c =
     let out = c.args.out.now in
     let done = c.squeeze_accepted.ensures in
     let claim = accepted-claim list c.in-Accepted.header found out done.value done.out_after in
-    ((claim.0, (claim.1, keeps_by list out _ claim.0 claim.1))).0
+    claim.0
 
 pub returns-in-Accepted-clause-out_after : goal.returns-in-Accepted-clause-out_after
 returns-in-Accepted-clause-out_after c =
@@ -51,7 +51,7 @@ returns-in-Accepted-clause-out_after c =
     let out = c.args.out.now in
     let done = c.squeeze_accepted.ensures in
     let claim = accepted-claim list c.in-Accepted.header found out done.value done.out_after in
-    ((claim.0, (claim.1, keeps_by list out _ claim.0 claim.1))).1
+    claim.1
 
 pub returns-in-Accepted-clause-keeps_by : goal.returns-in-Accepted-clause-keeps_by
 returns-in-Accepted-clause-keeps_by c =
@@ -60,4 +60,4 @@ returns-in-Accepted-clause-keeps_by c =
     let out = c.args.out.now in
     let done = c.squeeze_accepted.ensures in
     let claim = accepted-claim list c.in-Accepted.header found out done.value done.out_after in
-    ((claim.0, (claim.1, keeps_by list out _ claim.0 claim.1))).2
+    keeps_by list out _ claim.0 claim.1

@@ -12,11 +12,11 @@ use Rattle.squeeze.proofs.put.put_changes.Goals as goal
 pub put_clip-level-requires : goal.put_clip-level-requires
 put_clip-level-requires c =
     let a = c.args in
-    rw c.same_clip-same.ensures (omega (arith, c.requires, size-changes a a.settings))
+    rw c.same_clip-same.ensures (omega (arith, c.requires, size-changes a.before a.settings))
 
 pub put_value-player-requires : goal.put_value-player-requires
 put_value-player-requires c =
-    let b = c.args in
+    let b = c.args.before in
     let f = c.args.settings in
     let sizes = size-changes b f in
     let first = rw c.same_clip-same.ensures at c.put_clip-level.ensures in
@@ -26,7 +26,7 @@ put_value-player-requires c =
 
 pub put_value-requires : goal.put_value-requires
 put_value-requires c =
-    let b = c.args in
+    let b = c.args.before in
     let f = c.args.settings in
     let sizes = size-changes b f in
     let first = rw c.same_clip-same.ensures at c.put_clip-level.ensures in
@@ -38,7 +38,7 @@ put_value-requires c =
 
 pub returns : goal.returns
 returns c =
-    let b = c.args in
+    let b = c.args.before in
     let f = c.args.settings in
     let sizes = size-changes b f in
     let first = rw c.same_clip-same.ensures at c.put_clip-level.ensures in

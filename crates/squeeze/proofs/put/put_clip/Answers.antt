@@ -38,8 +38,6 @@ put_corner-requires c =
 
 pub returns : goal.returns
 unfolding kind_of fields_of
-
-unfolding fields_of
 returns c =
     let room : c.args.same ≡ false → c.args.place + 9 ≤ length c.args.out.now = (λ e. omega (arith, c.requires, ap length (change-some (clip c.args.clip) e))) in
     let a = c.args in

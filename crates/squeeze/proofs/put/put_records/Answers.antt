@@ -11,6 +11,7 @@ use Rattle.lists.specs.List.{AllBytes}
 use Rattle.squeeze.specs.inner.Walk.{is_setting}
 use Rattle.squeeze.proofs.Output.{put_same}
 use Rattle.squeeze.proofs.Walk.{kind-below, kind_in, squeezing_more, Filled, filled-start, filled-room, filled-end, filled_setting, shape-room, filled-shape}
+use borrow.Author.Rules.{rules}
 use Rattle.squeeze.proofs.put.put_records.Goals as goal
 
 pub loop-place-init : goal.loop-place-init
@@ -21,49 +22,48 @@ loop-place-init c =
 
 pub overflow_add-place : goal.overflow_add-place
 overflow_add-place c =
-    let turn : Filled c.args.basis c.args.list.now c.args.out.now c.loop-place.place c.loop-place c.loop-place.settings c.loop-place.end c.loop-place.out = c.loop-place.invariant.0 c.args.basis c.requires (sym c.first_settings-start.ensures) in
+    let turn : Filled c.args.basis c.args.list.now c.args.out.now c.loop-place.place c.loop-place.before c.loop-place.settings c.loop-place.end c.loop-place.out = c.loop-place.invariant.0 c.args.basis c.requires (sym c.first_settings-start.ensures) in
     let inside : (c.loop-place.place < length c.args.list.now) × (kind_size (kind_in c.args.list.now c.loop-place.place) + c.loop-place.place ≤ length c.args.list.now) × (0 < kind_size (kind_in c.args.list.now c.loop-place.place)) = left-inside turn.walk.left in
     let most : length c.args.list.now ≤ list_most = c.requires.0.most in
     record { fits = omega (arith, inside.0, most) }
 
 pub decode-rec-requires : goal.decode-rec-requires
 decode-rec-requires c =
-    let turn : Filled c.args.basis c.args.list.now c.args.out.now c.loop-place.place c.loop-place c.loop-place.settings c.loop-place.end c.loop-place.out = c.loop-place.invariant.0 c.args.basis c.requires (sym c.first_settings-start.ensures) in
+    let turn : Filled c.args.basis c.args.list.now c.args.out.now c.loop-place.place c.loop-place.before c.loop-place.settings c.loop-place.end c.loop-place.out = c.loop-place.invariant.0 c.args.basis c.requires (sym c.first_settings-start.ensures) in
     left-whole turn.walk.left
 
 pub next_place-place-requires : goal.next_place-place-requires
 next_place-place-requires c =
-    let turn : Filled c.args.basis c.args.list.now c.args.out.now c.loop-place.place c.loop-place c.loop-place.settings c.loop-place.end c.loop-place.out = c.loop-place.invariant.0 c.args.basis c.requires (sym c.first_settings-start.ensures) in
+    let turn : Filled c.args.basis c.args.list.now c.args.out.now c.loop-place.place c.loop-place.before c.loop-place.settings c.loop-place.end c.loop-place.out = c.loop-place.invariant.0 c.args.basis c.requires (sym c.first_settings-start.ensures) in
     let inside : (c.loop-place.place < length c.args.list.now) × (kind_size (kind_in c.args.list.now c.loop-place.place) + c.loop-place.place ≤ length c.args.list.now) × (0 < kind_size (kind_in c.args.list.now c.loop-place.place)) = left-inside turn.walk.left in
     let i = inside in
     (omega arith, left_stands turn.walk.left)
 
 pub loop-place-smaller-then-is_setting : goal.loop-place-smaller-then-is_setting
 loop-place-smaller-then-is_setting c =
-    let turn : Filled c.args.basis c.args.list.now c.args.out.now c.loop-place.place c.loop-place c.loop-place.settings c.loop-place.end c.loop-place.out = c.loop-place.invariant.0 c.args.basis c.requires (sym c.first_settings-start.ensures) in
+    let turn : Filled c.args.basis c.args.list.now c.args.out.now c.loop-place.place c.loop-place.before c.loop-place.settings c.loop-place.end c.loop-place.out = c.loop-place.invariant.0 c.args.basis c.requires (sym c.first_settings-start.ensures) in
     let inside : (c.loop-place.place < length c.args.list.now) × (kind_size (kind_in c.args.list.now c.loop-place.place) + c.loop-place.place ≤ length c.args.list.now) × (0 < kind_size (kind_in c.args.list.now c.loop-place.place)) = left-inside turn.walk.left in
     let i = inside in
     omega (arith, c.next_place-place.ensures)
 
 pub loop-place-preserved-then-is_setting : goal.loop-place-preserved-then-is_setting
 loop-place-preserved-then-is_setting c =
-    let turn : Filled c.args.basis c.args.list.now c.args.out.now c.loop-place.place c.loop-place c.loop-place.settings c.loop-place.end c.loop-place.out = c.loop-place.invariant.0 c.args.basis c.requires (sym c.first_settings-start.ensures) in
+    let turn : Filled c.args.basis c.args.list.now c.args.out.now c.loop-place.place c.loop-place.before c.loop-place.settings c.loop-place.end c.loop-place.out = c.loop-place.invariant.0 c.args.basis c.requires (sym c.first_settings-start.ensures) in
     let kind : ℕ = kind_in c.args.list.now c.loop-place.place in
     let some : kind ≡ 0 → ⊥ = squeezing_more turn.walk c.loop-place-test.true in
-    let t = in
     let e = sym c.is_setting.ensures ∙ c.if-is_setting.true in
-    (λ b d s. filled_setting (t.loop.invariant.0 b d s) some c.decode-rec.ensures c.next_place-place.ensures e c.settings_after-settings.ensures, t.loop.invariant.1)
+    (λ b d s. filled_setting (c.loop-place.invariant.0 b d s) some c.decode-rec.ensures c.next_place-place.ensures e c.settings_after-settings.ensures, c.loop-place.invariant.1)
 
 pub bounds-sizes-kind : goal.bounds-sizes-kind
 bounds-sizes-kind c =
-    let turn : Filled c.args.basis c.args.list.now c.args.out.now c.loop-place.place c.loop-place c.loop-place.settings c.loop-place.end c.loop-place.out = c.loop-place.invariant.0 c.args.basis c.requires (sym c.first_settings-start.ensures) in
+    let turn : Filled c.args.basis c.args.list.now c.args.out.now c.loop-place.place c.loop-place.before c.loop-place.settings c.loop-place.end c.loop-place.out = c.loop-place.invariant.0 c.args.basis c.requires (sym c.first_settings-start.ensures) in
     let inside : (c.loop-place.place < length c.args.list.now) × (kind_size (kind_in c.args.list.now c.loop-place.place) + c.loop-place.place ≤ length c.args.list.now) × (0 < kind_size (kind_in c.args.list.now c.loop-place.place)) = left-inside turn.walk.left in
     let kind : ℕ = kind_in c.args.list.now c.loop-place.place in
     kind-below kind inside.2
 
 pub overflow_add-next : goal.overflow_add-next
 overflow_add-next c =
-    let turn : Filled c.args.basis c.args.list.now c.args.out.now c.loop-place.place c.loop-place c.loop-place.settings c.loop-place.end c.loop-place.out = c.loop-place.invariant.0 c.args.basis c.requires (sym c.first_settings-start.ensures) in
+    let turn : Filled c.args.basis c.args.list.now c.args.out.now c.loop-place.place c.loop-place.before c.loop-place.settings c.loop-place.end c.loop-place.out = c.loop-place.invariant.0 c.args.basis c.requires (sym c.first_settings-start.ensures) in
     let inside : (c.loop-place.place < length c.args.list.now) × (kind_size (kind_in c.args.list.now c.loop-place.place) + c.loop-place.place ≤ length c.args.list.now) × (0 < kind_size (kind_in c.args.list.now c.loop-place.place)) = left-inside turn.walk.left in
     let most : length c.args.list.now ≤ list_most = c.requires.0.most in
     let kind : ℕ = kind_in c.args.list.now c.loop-place.place in
@@ -72,12 +72,12 @@ overflow_add-next c =
 
 pub put_shape-end-requires : goal.put_shape-end-requires
 put_shape-end-requires c =
-    let turn : Filled c.args.basis c.args.list.now c.args.out.now c.loop-place.place c.loop-place c.loop-place.settings c.loop-place.end c.loop-place.out = c.loop-place.invariant.0 c.args.basis c.requires (sym c.first_settings-start.ensures) in
+    let turn : Filled c.args.basis c.args.list.now c.args.out.now c.loop-place.place c.loop-place.before c.loop-place.settings c.loop-place.end c.loop-place.out = c.loop-place.invariant.0 c.args.basis c.requires (sym c.first_settings-start.ensures) in
     let inside : (c.loop-place.place < length c.args.list.now) × (kind_size (kind_in c.args.list.now c.loop-place.place) + c.loop-place.place ≤ length c.args.list.now) × (0 < kind_size (kind_in c.args.list.now c.loop-place.place)) = left-inside turn.walk.left in
     let kind : ℕ = kind_in c.args.list.now c.loop-place.place in
     let some : kind ≡ 0 → ⊥ = squeezing_more turn.walk c.loop-place-test.true in
     let size_is : get_or c.kind_sizes-sizes.result kind 0 ≡ kind_size kind = c.kind_sizes-sizes.ensures kind inside.2 in
-    let bytes : AllBytes c.args.list.now = (λ i. omega (arith, c.shared_slice_known-in-loop-place-1.given i)) in
+    let bytes : AllBytes c.args.list.now = (λ i. omega (arith, c.type_inv.list i)) in
     let next : ℕ = c.loop-place.place + get_or c.kind_sizes-sizes.result kind 0 in
     let other : is_setting kind ≡ false = sym c.is_setting.ensures ∙ c.if-is_setting.false in
     let past : next ≡ c.loop-place.place + kind_size kind = omega (arith, size_is) in
@@ -85,7 +85,7 @@ put_shape-end-requires c =
 
 pub loop-place-smaller : goal.loop-place-smaller
 loop-place-smaller c =
-    let turn : Filled c.args.basis c.args.list.now c.args.out.now c.loop-place.place c.loop-place c.loop-place.settings c.loop-place.end c.loop-place.out = c.loop-place.invariant.0 c.args.basis c.requires (sym c.first_settings-start.ensures) in
+    let turn : Filled c.args.basis c.args.list.now c.args.out.now c.loop-place.place c.loop-place.before c.loop-place.settings c.loop-place.end c.loop-place.out = c.loop-place.invariant.0 c.args.basis c.requires (sym c.first_settings-start.ensures) in
     let inside : (c.loop-place.place < length c.args.list.now) × (kind_size (kind_in c.args.list.now c.loop-place.place) + c.loop-place.place ≤ length c.args.list.now) × (0 < kind_size (kind_in c.args.list.now c.loop-place.place)) = left-inside turn.walk.left in
     let kind : ℕ = kind_in c.args.list.now c.loop-place.place in
     let size_is : get_or c.kind_sizes-sizes.result kind 0 ≡ kind_size kind = c.kind_sizes-sizes.ensures kind inside.2 in
@@ -96,12 +96,12 @@ loop-place-smaller c =
 
 pub loop-place-preserved : goal.loop-place-preserved
 loop-place-preserved c =
-    let turn : Filled c.args.basis c.args.list.now c.args.out.now c.loop-place.place c.loop-place c.loop-place.settings c.loop-place.end c.loop-place.out = c.loop-place.invariant.0 c.args.basis c.requires (sym c.first_settings-start.ensures) in
+    let turn : Filled c.args.basis c.args.list.now c.args.out.now c.loop-place.place c.loop-place.before c.loop-place.settings c.loop-place.end c.loop-place.out = c.loop-place.invariant.0 c.args.basis c.requires (sym c.first_settings-start.ensures) in
     let inside : (c.loop-place.place < length c.args.list.now) × (kind_size (kind_in c.args.list.now c.loop-place.place) + c.loop-place.place ≤ length c.args.list.now) × (0 < kind_size (kind_in c.args.list.now c.loop-place.place)) = left-inside turn.walk.left in
     let kind : ℕ = kind_in c.args.list.now c.loop-place.place in
     let some : kind ≡ 0 → ⊥ = squeezing_more turn.walk c.loop-place-test.true in
     let size_is : get_or c.kind_sizes-sizes.result kind 0 ≡ kind_size kind = c.kind_sizes-sizes.ensures kind inside.2 in
-    let bytes : AllBytes c.args.list.now = (λ i. omega (arith, c.shared_slice_known-in-loop-place-1.given i)) in
+    let bytes : AllBytes c.args.list.now = (λ i. omega (arith, c.type_inv.list i)) in
     let next : ℕ = c.loop-place.place + get_or c.kind_sizes-sizes.result kind 0 in
     let other : is_setting kind ≡ false = sym c.is_setting.ensures ∙ c.if-is_setting.false in
     let past : next ≡ c.loop-place.place + kind_size kind = omega (arith, size_is) in
@@ -112,13 +112,22 @@ loop-place-preserved c =
 
 pub bounds-out-end : goal.bounds-out-end
 bounds-out-end c =
-    let turn : Filled c.args.basis c.args.list.now c.args.out.now c.loop-place.place c.loop-place c.loop-place.settings c.loop-place.end c.loop-place.out = c.loop-place.invariant.0 c.args.basis c.requires (sym c.first_settings-start.ensures) in
+    let turn : Filled c.args.basis c.args.list.now c.args.out.now c.loop-place.place c.loop-place.before c.loop-place.settings c.loop-place.end c.loop-place.out = c.loop-place.invariant.0 c.args.basis c.requires (sym c.first_settings-start.ensures) in
     filled-room turn c.loop-place-test.false
 
 pub returns : goal.returns
 returns c =
-    let turn : Filled c.args.basis c.args.list.now c.args.out.now c.loop-place.place c.loop-place c.loop-place.settings c.loop-place.end c.loop-place.out = c.loop-place.invariant.0 c.args.basis c.requires (sym c.first_settings-start.ensures) in
+    let turn : Filled c.args.basis c.args.list.now c.args.out.now c.loop-place.place c.loop-place.before c.loop-place.settings c.loop-place.end c.loop-place.out = c.loop-place.invariant.0 c.args.basis c.requires (sym c.first_settings-start.ensures) in
     filled-end turn c.loop-place-test.false
 
 pub slice_bounds-put_shape-end : goal.slice_bounds-put_shape-end
-slice_bounds-put_shape-end c = ?
+slice_bounds-put_shape-end c =
+    let turn : Filled c.args.basis c.args.list.now c.args.out.now c.loop-place.place c.loop-place.before c.loop-place.settings c.loop-place.end c.loop-place.out = c.loop-place.invariant.0 c.args.basis c.requires (sym c.first_settings-start.ensures) in
+    let inside : (c.loop-place.place < length c.args.list.now) × (kind_size (kind_in c.args.list.now c.loop-place.place) + c.loop-place.place ≤ length c.args.list.now) × (0 < kind_size (kind_in c.args.list.now c.loop-place.place)) = left-inside turn.walk.left in
+    let kind : ℕ = kind_in c.args.list.now c.loop-place.place in
+    let size_is : get_or c.kind_sizes-sizes.result kind 0 ≡ kind_size kind = c.kind_sizes-sizes.ensures kind inside.2 in
+    let next : ℕ = c.loop-place.place + get_or c.kind_sizes-sizes.result kind 0 in
+    let past : next ≡ c.loop-place.place + kind_size kind = omega (arith, size_is) in
+    let i = inside in
+    let e = past in
+    search rules

@@ -8,5 +8,5 @@ use Rattle.squeeze.proofs.put.put_shape.Goals as goal
 pub returns : goal.returns
 returns c =
     let a = c.args in
-    let n = length-append (all_bytes (changes a a.settings)) a.bytes.now in
+    let n = length-append (all_bytes (changes a.before a.settings)) a.bytes.now in
     put_then (omega (arith, c.requires)) c.put_changes-shape.ensures c.copy.ensures

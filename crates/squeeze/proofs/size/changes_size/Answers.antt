@@ -11,7 +11,7 @@ use Rattle.squeeze.proofs.size.changes_size.Goals as goal
 pub returns : goal.returns
 unfolding fields_of
 returns c =
-    let b = c.args in
+    let b = c.args.before in
     let f = c.args.settings in
     let clip : c.change_size-clip.result ≡ size_of (clip_change b f) = c.change_size-clip.ensures.0 ∙ ap (λ (same : Bool). cond same 0 9) c.same_clip.ensures ∙ sym (change-size _ _) in
     let level : c.change_size-level.result ≡ size_of (level_change b f) = c.change_size-level.ensures.0 ∙ sym (change-size _ _) in

@@ -21,34 +21,33 @@ loop-place-init c b d e =
 
 pub overflow_add-place : goal.overflow_add-place
 overflow_add-place c =
-    let turn : Sized c.args.basis c.args.list.now c.loop-place.place c.loop-place c.loop-place.settings c.loop-place.size = c.loop-place.invariant c.args.basis c.requires (sym c.first_settings-start.ensures) in
+    let turn : Sized c.args.basis c.args.list.now c.loop-place.place c.loop-place.before c.loop-place.settings c.loop-place.size = c.loop-place.invariant c.args.basis c.requires (sym c.first_settings-start.ensures) in
     let inside : (c.loop-place.place < length c.args.list.now) × (kind_size (kind_in c.args.list.now c.loop-place.place) + c.loop-place.place ≤ length c.args.list.now) × (0 < kind_size (kind_in c.args.list.now c.loop-place.place)) = left-inside turn.walk.left in
-    let most : length c.args.list.now ≤ list_most = c.requires.most
-  -- what is kept is no longer than the list in
+    let most : length c.args.list.now ≤ list_most = c.requires.most in
     record { fits = omega (arith, inside.0, most) }
 
 pub decode-rec-requires : goal.decode-rec-requires
 decode-rec-requires c =
-    let turn : Sized c.args.basis c.args.list.now c.loop-place.place c.loop-place c.loop-place.settings c.loop-place.size = c.loop-place.invariant c.args.basis c.requires (sym c.first_settings-start.ensures) in
+    let turn : Sized c.args.basis c.args.list.now c.loop-place.place c.loop-place.before c.loop-place.settings c.loop-place.size = c.loop-place.invariant c.args.basis c.requires (sym c.first_settings-start.ensures) in
     left-whole turn.walk.left
 
 pub next_place-place-requires : goal.next_place-place-requires
 next_place-place-requires c =
-    let turn : Sized c.args.basis c.args.list.now c.loop-place.place c.loop-place c.loop-place.settings c.loop-place.size = c.loop-place.invariant c.args.basis c.requires (sym c.first_settings-start.ensures) in
+    let turn : Sized c.args.basis c.args.list.now c.loop-place.place c.loop-place.before c.loop-place.settings c.loop-place.size = c.loop-place.invariant c.args.basis c.requires (sym c.first_settings-start.ensures) in
     let inside : (c.loop-place.place < length c.args.list.now) × (kind_size (kind_in c.args.list.now c.loop-place.place) + c.loop-place.place ≤ length c.args.list.now) × (0 < kind_size (kind_in c.args.list.now c.loop-place.place)) = left-inside turn.walk.left in
     let i = inside in
     (omega arith, left_stands turn.walk.left)
 
 pub loop-place-smaller-then-is_setting : goal.loop-place-smaller-then-is_setting
 loop-place-smaller-then-is_setting c =
-    let turn : Sized c.args.basis c.args.list.now c.loop-place.place c.loop-place c.loop-place.settings c.loop-place.size = c.loop-place.invariant c.args.basis c.requires (sym c.first_settings-start.ensures) in
+    let turn : Sized c.args.basis c.args.list.now c.loop-place.place c.loop-place.before c.loop-place.settings c.loop-place.size = c.loop-place.invariant c.args.basis c.requires (sym c.first_settings-start.ensures) in
     let inside : (c.loop-place.place < length c.args.list.now) × (kind_size (kind_in c.args.list.now c.loop-place.place) + c.loop-place.place ≤ length c.args.list.now) × (0 < kind_size (kind_in c.args.list.now c.loop-place.place)) = left-inside turn.walk.left in
     let i = inside in
     omega (arith, c.next_place-place.ensures)
 
 pub loop-place-preserved-then-is_setting : goal.loop-place-preserved-then-is_setting
 loop-place-preserved-then-is_setting c b d s =
-    let turn : Sized c.args.basis c.args.list.now c.loop-place.place c.loop-place c.loop-place.settings c.loop-place.size = c.loop-place.invariant c.args.basis c.requires (sym c.first_settings-start.ensures) in
+    let turn : Sized c.args.basis c.args.list.now c.loop-place.place c.loop-place.before c.loop-place.settings c.loop-place.size = c.loop-place.invariant c.args.basis c.requires (sym c.first_settings-start.ensures) in
     let kind : ℕ = kind_in c.args.list.now c.loop-place.place in
     let some : kind ≡ 0 → ⊥ = squeezing_more turn.walk c.loop-place-test.true in
     sized_setting (c.loop-place.invariant b d s) some c.decode-rec.ensures c.next_place-place.ensures (sym c.is_setting.ensures ∙ c.if-is_setting.true)
@@ -56,27 +55,25 @@ loop-place-preserved-then-is_setting c b d s =
 
 pub bounds-sizes-kind : goal.bounds-sizes-kind
 bounds-sizes-kind c =
-    let turn : Sized c.args.basis c.args.list.now c.loop-place.place c.loop-place c.loop-place.settings c.loop-place.size = c.loop-place.invariant c.args.basis c.requires (sym c.first_settings-start.ensures) in
+    let turn : Sized c.args.basis c.args.list.now c.loop-place.place c.loop-place.before c.loop-place.settings c.loop-place.size = c.loop-place.invariant c.args.basis c.requires (sym c.first_settings-start.ensures) in
     let inside : (c.loop-place.place < length c.args.list.now) × (kind_size (kind_in c.args.list.now c.loop-place.place) + c.loop-place.place ≤ length c.args.list.now) × (0 < kind_size (kind_in c.args.list.now c.loop-place.place)) = left-inside turn.walk.left in
     let kind : ℕ = kind_in c.args.list.now c.loop-place.place in
     kind-below kind inside.2
 
 pub overflow_add-size : goal.overflow_add-size
 overflow_add-size c =
-    let turn : Sized c.args.basis c.args.list.now c.loop-place.place c.loop-place c.loop-place.settings c.loop-place.size = c.loop-place.invariant c.args.basis c.requires (sym c.first_settings-start.ensures) in
+    let turn : Sized c.args.basis c.args.list.now c.loop-place.place c.loop-place.before c.loop-place.settings c.loop-place.size = c.loop-place.invariant c.args.basis c.requires (sym c.first_settings-start.ensures) in
     let inside : (c.loop-place.place < length c.args.list.now) × (kind_size (kind_in c.args.list.now c.loop-place.place) + c.loop-place.place ≤ length c.args.list.now) × (0 < kind_size (kind_in c.args.list.now c.loop-place.place)) = left-inside turn.walk.left in
-    let most : length c.args.list.now ≤ list_most = c.requires.most
-  -- what is kept is no longer than the list in
+    let most : length c.args.list.now ≤ list_most = c.requires.most in
     let kind : ℕ = kind_in c.args.list.now c.loop-place.place in
     let size_is : get_or c.kind_sizes-sizes.result kind 0 ≡ kind_size kind = c.kind_sizes-sizes.ensures kind inside.2 in
     let i = inside in record { fits = omega (arith, i.1, c.changes_size.ensures.1, size_is, most) }
 
 pub overflow_add-size-else-is_setting : goal.overflow_add-size-else-is_setting
 overflow_add-size-else-is_setting c =
-    let turn : Sized c.args.basis c.args.list.now c.loop-place.place c.loop-place c.loop-place.settings c.loop-place.size = c.loop-place.invariant c.args.basis c.requires (sym c.first_settings-start.ensures) in
+    let turn : Sized c.args.basis c.args.list.now c.loop-place.place c.loop-place.before c.loop-place.settings c.loop-place.size = c.loop-place.invariant c.args.basis c.requires (sym c.first_settings-start.ensures) in
     let inside : (c.loop-place.place < length c.args.list.now) × (kind_size (kind_in c.args.list.now c.loop-place.place) + c.loop-place.place ≤ length c.args.list.now) × (0 < kind_size (kind_in c.args.list.now c.loop-place.place)) = left-inside turn.walk.left in
-    let most : length c.args.list.now ≤ list_most = c.requires.most
-  -- what is kept is no longer than the list in
+    let most : length c.args.list.now ≤ list_most = c.requires.most in
     let few : header_size + size_of (kept_of c.args.basis c.args.list.now) ≤ list_most = omega (arith, kept-few c.args.list.now c.args.basis c.requires, most) in
     let kind : ℕ = kind_in c.args.list.now c.loop-place.place in
     let some : kind ≡ 0 → ⊥ = squeezing_more turn.walk c.loop-place-test.true in
@@ -84,23 +81,21 @@ overflow_add-size-else-is_setting c =
     let n : ℕ = get_or c.kind_sizes-sizes.result kind 0 in
     let other : is_setting kind ≡ false = sym c.is_setting.ensures ∙ c.if-is_setting.false in
     let past : c.loop-place.place + n ≡ c.loop-place.place + kind_size kind = omega (arith, size_is) in
-    let adds : c.changes_size.result + n ≡ size_of (changes c.loop-place c.loop-place.settings) + kind_size kind = omega (arith, c.changes_size.ensures.0, size_is) in
-    let t = in
-    record { fits = omega (arith, sized_room (turn t) some past other adds, few t) }
+    let adds : c.changes_size.result + n ≡ size_of (changes c.loop-place.before c.loop-place.settings) + kind_size kind = omega (arith, c.changes_size.ensures.0, size_is) in
+    record { fits = omega (arith, sized_room turn some past other adds, few) }
 
 pub overflow_add-place-else-is_setting : goal.overflow_add-place-else-is_setting
 overflow_add-place-else-is_setting c =
-    let turn : Sized c.args.basis c.args.list.now c.loop-place.place c.loop-place c.loop-place.settings c.loop-place.size = c.loop-place.invariant c.args.basis c.requires (sym c.first_settings-start.ensures) in
+    let turn : Sized c.args.basis c.args.list.now c.loop-place.place c.loop-place.before c.loop-place.settings c.loop-place.size = c.loop-place.invariant c.args.basis c.requires (sym c.first_settings-start.ensures) in
     let inside : (c.loop-place.place < length c.args.list.now) × (kind_size (kind_in c.args.list.now c.loop-place.place) + c.loop-place.place ≤ length c.args.list.now) × (0 < kind_size (kind_in c.args.list.now c.loop-place.place)) = left-inside turn.walk.left in
-    let most : length c.args.list.now ≤ list_most = c.requires.most
-  -- what is kept is no longer than the list in
+    let most : length c.args.list.now ≤ list_most = c.requires.most in
     let kind : ℕ = kind_in c.args.list.now c.loop-place.place in
     let size_is : get_or c.kind_sizes-sizes.result kind 0 ≡ kind_size kind = c.kind_sizes-sizes.ensures kind inside.2 in
     let i = inside in record { fits = omega (arith, i.1, size_is, most) }
 
 pub loop-place-smaller : goal.loop-place-smaller
 loop-place-smaller c =
-    let turn : Sized c.args.basis c.args.list.now c.loop-place.place c.loop-place c.loop-place.settings c.loop-place.size = c.loop-place.invariant c.args.basis c.requires (sym c.first_settings-start.ensures) in
+    let turn : Sized c.args.basis c.args.list.now c.loop-place.place c.loop-place.before c.loop-place.settings c.loop-place.size = c.loop-place.invariant c.args.basis c.requires (sym c.first_settings-start.ensures) in
     let inside : (c.loop-place.place < length c.args.list.now) × (kind_size (kind_in c.args.list.now c.loop-place.place) + c.loop-place.place ≤ length c.args.list.now) × (0 < kind_size (kind_in c.args.list.now c.loop-place.place)) = left-inside turn.walk.left in
     let kind : ℕ = kind_in c.args.list.now c.loop-place.place in
     let size_is : get_or c.kind_sizes-sizes.result kind 0 ≡ kind_size kind = c.kind_sizes-sizes.ensures kind inside.2 in
@@ -109,7 +104,7 @@ loop-place-smaller c =
 
 pub loop-place-preserved : goal.loop-place-preserved
 loop-place-preserved c b d s =
-    let turn : Sized c.args.basis c.args.list.now c.loop-place.place c.loop-place c.loop-place.settings c.loop-place.size = c.loop-place.invariant c.args.basis c.requires (sym c.first_settings-start.ensures) in
+    let turn : Sized c.args.basis c.args.list.now c.loop-place.place c.loop-place.before c.loop-place.settings c.loop-place.size = c.loop-place.invariant c.args.basis c.requires (sym c.first_settings-start.ensures) in
     let inside : (c.loop-place.place < length c.args.list.now) × (kind_size (kind_in c.args.list.now c.loop-place.place) + c.loop-place.place ≤ length c.args.list.now) × (0 < kind_size (kind_in c.args.list.now c.loop-place.place)) = left-inside turn.walk.left in
     let kind : ℕ = kind_in c.args.list.now c.loop-place.place in
     let some : kind ≡ 0 → ⊥ = squeezing_more turn.walk c.loop-place-test.true in
@@ -117,18 +112,17 @@ loop-place-preserved c b d s =
     let n : ℕ = get_or c.kind_sizes-sizes.result kind 0 in
     let other : is_setting kind ≡ false = sym c.is_setting.ensures ∙ c.if-is_setting.false in
     let past : c.loop-place.place + n ≡ c.loop-place.place + kind_size kind = omega (arith, size_is) in
-    let adds : c.changes_size.result + n ≡ size_of (changes c.loop-place c.loop-place.settings) + kind_size kind = omega (arith, c.changes_size.ensures.0, size_is) in
+    let adds : c.changes_size.result + n ≡ size_of (changes c.loop-place.before c.loop-place.settings) + kind_size kind = omega (arith, c.changes_size.ensures.0, size_is) in
     sized_shape (c.loop-place.invariant b d s) some past other adds
 
 pub overflow_add-result : goal.overflow_add-result
 overflow_add-result c =
-    let turn : Sized c.args.basis c.args.list.now c.loop-place.place c.loop-place c.loop-place.settings c.loop-place.size = c.loop-place.invariant c.args.basis c.requires (sym c.first_settings-start.ensures) in
-    let most : length c.args.list.now ≤ list_most = c.requires.most
-  -- what is kept is no longer than the list in
+    let turn : Sized c.args.basis c.args.list.now c.loop-place.place c.loop-place.before c.loop-place.settings c.loop-place.size = c.loop-place.invariant c.args.basis c.requires (sym c.first_settings-start.ensures) in
+    let most : length c.args.list.now ≤ list_most = c.requires.most in
     let few : header_size + size_of (kept_of c.args.basis c.args.list.now) ≤ list_most = omega (arith, kept-few c.args.list.now c.args.basis c.requires, most) in
     record { fits = omega (arith, sized_end turn c.loop-place-test.false, few) }
 
 pub returns : goal.returns
 returns c =
-    let turn : Sized c.args.basis c.args.list.now c.loop-place.place c.loop-place c.loop-place.settings c.loop-place.size = c.loop-place.invariant c.args.basis c.requires (sym c.first_settings-start.ensures) in
+    let turn : Sized c.args.basis c.args.list.now c.loop-place.place c.loop-place.before c.loop-place.settings c.loop-place.size = c.loop-place.invariant c.args.basis c.requires (sym c.first_settings-start.ensures) in
     sized_end turn c.loop-place-test.false
