@@ -1,0 +1,70 @@
+-- Each kind is drawn by the library as the shape that is taken, and a number of no kind is refused.
+use Rattle.std.proofs.Common.{refl, arith}
+use Rattle.arguments.specs.Taken.{taken_of}
+use Rattle.greystroke.specs.Shape.{shape_drawn, page_drawn}
+use Rattle.greystroke.proofs.Kinds.{line_taken, disc_taken, ring_taken, triangle_taken, none_taken}
+use Rattle.greystroke.proofs.shape.draw.Goals as goal
+
+pub returns-in-5-clause-value : goal.returns-in-5-clause-value
+unfolding taken_of shape_drawn
+returns-in-5-clause-value c =
+    rw (disc_taken c.args.shape.kind c.args.shape.numbers c.in-5.is)
+    (rw (c.disc_of.ensures, c.clip_of-kept.ensures, c.unsigned-h.ensures, c.unsigned-w.ensures) at c.draw_disc.ensures.value)
+
+pub returns-in-5-clause-page_after : goal.returns-in-5-clause-page_after
+unfolding taken_of page_drawn
+returns-in-5-clause-page_after c =
+    rw (disc_taken c.args.shape.kind c.args.shape.numbers c.in-5.is)
+    (rw (c.disc_of.ensures, c.clip_of-kept.ensures, c.unsigned-h.ensures, c.unsigned-w.ensures) at c.draw_disc.ensures.page_after)
+
+pub returns-in-6-clause-value : goal.returns-in-6-clause-value
+unfolding taken_of shape_drawn
+returns-in-6-clause-value c =
+    rw (ring_taken c.args.shape.kind c.args.shape.numbers c.in-6.is)
+    (rw (c.ring_of.ensures, c.clip_of-kept.ensures, c.unsigned-h.ensures, c.unsigned-w.ensures) at c.draw_ring.ensures.value)
+
+pub returns-in-6-clause-page_after : goal.returns-in-6-clause-page_after
+unfolding taken_of page_drawn
+returns-in-6-clause-page_after c =
+    rw (ring_taken c.args.shape.kind c.args.shape.numbers c.in-6.is)
+    (rw (c.ring_of.ensures, c.clip_of-kept.ensures, c.unsigned-h.ensures, c.unsigned-w.ensures) at c.draw_ring.ensures.page_after)
+
+pub returns-in-10-clause-value : goal.returns-in-10-clause-value
+unfolding taken_of shape_drawn
+returns-in-10-clause-value c =
+    rw (triangle_taken c.args.shape.kind c.args.shape.numbers c.in-10.is)
+    (rw (c.triangle_of.ensures, c.clip_of-kept.ensures, c.unsigned-h.ensures, c.unsigned-w.ensures) at c.draw_triangle.ensures.value)
+
+pub returns-in-10-clause-page_after : goal.returns-in-10-clause-page_after
+unfolding taken_of page_drawn
+returns-in-10-clause-page_after c =
+    rw (triangle_taken c.args.shape.kind c.args.shape.numbers c.in-10.is)
+    (rw (c.triangle_of.ensures, c.clip_of-kept.ensures, c.unsigned-h.ensures, c.unsigned-w.ensures) at c.draw_triangle.ensures.page_after)
+
+pub returns-in-3-clause-value : goal.returns-in-3-clause-value
+unfolding taken_of shape_drawn
+returns-in-3-clause-value c =
+    rw (line_taken c.args.shape.kind c.args.shape.numbers ? ?)
+    (rw (c.line_of.ensures, c.clip_of-kept.ensures, c.unsigned-h.ensures, c.unsigned-w.ensures) at c.draw_line.ensures.value)
+
+pub returns-in-3-clause-page_after : goal.returns-in-3-clause-page_after
+unfolding taken_of page_drawn
+returns-in-3-clause-page_after c =
+    rw (line_taken c.args.shape.kind c.args.shape.numbers ? ?)
+    (rw (c.line_of.ensures, c.clip_of-kept.ensures, c.unsigned-h.ensures, c.unsigned-w.ensures) at c.draw_line.ensures.page_after)
+
+pub returns-in_default-clause-value : goal.returns-in_default-clause-value
+unfolding taken_of shape_drawn
+returns-in_default-clause-value c = rw (none_taken c.args.shape.kind c.args.shape.numbers ? ? ? ? ?) refl
+
+pub returns-in_default-clause-page_after : goal.returns-in_default-clause-page_after
+unfolding taken_of page_drawn
+returns-in_default-clause-page_after c = rw (none_taken c.args.shape.kind c.args.shape.numbers ? ? ? ? ?) refl
+
+pub returns-in_default-2-clause-value : goal.returns-in_default-2-clause-value
+unfolding taken_of shape_drawn
+returns-in_default-2-clause-value c = rw (none_taken c.args.shape.kind c.args.shape.numbers ? ? ? ? ?) refl
+
+pub returns-in_default-2-clause-page_after : goal.returns-in_default-2-clause-page_after
+unfolding taken_of page_drawn
+returns-in_default-2-clause-page_after c = rw (none_taken c.args.shape.kind c.args.shape.numbers ? ? ? ? ?) refl
