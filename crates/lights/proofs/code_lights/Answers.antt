@@ -1,5 +1,5 @@
 -- The turn at k has given codes 0 to k − 1 their lights.
-use Rattle.std.proofs.Common.{◌-◌, arith}
+use Rattle.std.proofs.Common.{arith}
 use Rattle.lights.proofs.Codes.{codes_only}
 use Rattle.lights.proofs.code_lights.Goals as goal
 

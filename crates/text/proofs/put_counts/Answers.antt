@@ -1,6 +1,6 @@
 -- Invariant: what is put, with the text of the counts that are left, is the whole text. 21 bytes are enough for a count.
 use mathlib.Core.Path.{refl}
-use Prim.Native.Nat.{◌+◌, ◌-◌}
+use Prim.Native.Nat.{◌+◌}
 use native.Mathlib.Omega.{arith}
 use borrow.Author.Rules.{rules}
 use lib.ListN.{take}

@@ -1,5 +1,4 @@
 -- Invariant: what is put, with the text of the levels that are left, is the whole text. Four bytes are enough for a level.
-use Prim.Native.Nat.{◌-◌}
 use native.Mathlib.Omega.{arith}
 use borrow.Author.Rules.{rules}
 use lib.ListN.{take}

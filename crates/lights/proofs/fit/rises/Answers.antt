@@ -1,5 +1,5 @@
 -- The turn at i has counted those of lights 1 to i that do not rise.
-use Rattle.std.proofs.Common.{◌-◌, arith}
+use Rattle.std.proofs.Common.{arith}
 use Rattle.lights.specs.Lights.{light_of}
 use Rattle.lights.proofs.Rising.{rises-none, rises-more}
 use Rattle.lights.proofs.fit.rises.Goals as goal

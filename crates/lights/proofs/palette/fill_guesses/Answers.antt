@@ -1,5 +1,5 @@
 -- Each guess stands from the first stretch that begins above its middle on, so that it is not above the code of any light there.
-use Rattle.std.proofs.Common.{◌+◌, ◌-◌, sym, arith}
+use Rattle.std.proofs.Common.{◌+◌, sym, arith}
 use Rattle.lights.specs.Lights.{light_of}
 use Rattle.lights.specs.inner.Palette.{reach_of, Guess}
 use Rattle.lights.proofs.Guesses.{reach_fits, guess_none, guesses_more}

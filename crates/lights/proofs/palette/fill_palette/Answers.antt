@@ -1,5 +1,5 @@
 -- The guesses are made first, over zeros, and the lights are stored in front of them.
-use Rattle.std.proofs.Common.{◌≡◌, ℕ, ◌-◌, ◌<◌, sym, subst, arith}
+use Rattle.std.proofs.Common.{◌≡◌, ℕ, ◌<◌, sym, subst, arith}
 use Rattle.lights.specs.Lights.{light_of}
 use Rattle.lights.specs.inner.Palette.{reach_of, Guesses}
 use Rattle.lights.proofs.Guesses.{guesses_none, guesses_set, lights-set, palette_is, palette_lights}
