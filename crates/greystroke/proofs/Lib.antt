@@ -1,3 +1,3 @@
 -- The laws of the C interface.
 pub mod Ceiling
-mod Kinds
+mod ByKind

@@ -2,7 +2,7 @@
 use Rattle.std.proofs.Common.{refl, arith}
 use Rattle.arguments.specs.Taken.{taken_of}
 use Rattle.greystroke.specs.Shape.{shape_drawn, page_drawn}
-use Rattle.greystroke.proofs.Kinds.{line_taken, disc_taken, ring_taken, triangle_taken, none_taken}
+use Rattle.greystroke.proofs.ByKind.{line_taken, disc_taken, ring_taken, triangle_taken, none_taken}
 use Rattle.greystroke.proofs.shape.draw.Goals as goal
 
 pub returns-in-5-clause-value : goal.returns-in-5-clause-value
@@ -44,27 +44,27 @@ returns-in-10-clause-page_after c =
 pub returns-in-3-clause-value : goal.returns-in-3-clause-value
 unfolding taken_of shape_drawn
 returns-in-3-clause-value c =
-    rw (line_taken c.args.shape.kind c.args.shape.numbers ? ?)
+    rw (line_taken c.args.shape.kind c.args.shape.numbers (omega arith) (omega arith))
     (rw (c.line_of.ensures, c.clip_of-kept.ensures, c.unsigned-h.ensures, c.unsigned-w.ensures) at c.draw_line.ensures.value)
 
 pub returns-in-3-clause-page_after : goal.returns-in-3-clause-page_after
 unfolding taken_of page_drawn
 returns-in-3-clause-page_after c =
-    rw (line_taken c.args.shape.kind c.args.shape.numbers ? ?)
+    rw (line_taken c.args.shape.kind c.args.shape.numbers (omega arith) (omega arith))
     (rw (c.line_of.ensures, c.clip_of-kept.ensures, c.unsigned-h.ensures, c.unsigned-w.ensures) at c.draw_line.ensures.page_after)
 
 pub returns-in_default-clause-value : goal.returns-in_default-clause-value
 unfolding taken_of shape_drawn
-returns-in_default-clause-value c = rw (none_taken c.args.shape.kind c.args.shape.numbers ? ? ? ? ?) refl
+returns-in_default-clause-value c = rw (none_taken c.args.shape.kind c.args.shape.numbers (λ e. omega arith) (λ e. omega arith) (λ e. omega arith) (λ e. omega arith) (λ e. omega arith)) refl
 
 pub returns-in_default-clause-page_after : goal.returns-in_default-clause-page_after
 unfolding taken_of page_drawn
-returns-in_default-clause-page_after c = rw (none_taken c.args.shape.kind c.args.shape.numbers ? ? ? ? ?) refl
+returns-in_default-clause-page_after c = rw (none_taken c.args.shape.kind c.args.shape.numbers (λ e. omega arith) (λ e. omega arith) (λ e. omega arith) (λ e. omega arith) (λ e. omega arith)) refl
 
 pub returns-in_default-2-clause-value : goal.returns-in_default-2-clause-value
 unfolding taken_of shape_drawn
-returns-in_default-2-clause-value c = rw (none_taken c.args.shape.kind c.args.shape.numbers ? ? ? ? ?) refl
+returns-in_default-2-clause-value c = rw (none_taken c.args.shape.kind c.args.shape.numbers (λ e. omega arith) (λ e. omega arith) (λ e. omega arith) (λ e. omega arith) (λ e. omega arith)) refl
 
 pub returns-in_default-2-clause-page_after : goal.returns-in_default-2-clause-page_after
 unfolding taken_of page_drawn
-returns-in_default-2-clause-page_after c = rw (none_taken c.args.shape.kind c.args.shape.numbers ? ? ? ? ?) refl
+returns-in_default-2-clause-page_after c = rw (none_taken c.args.shape.kind c.args.shape.numbers (λ e. omega arith) (λ e. omega arith) (λ e. omega arith) (λ e. omega arith) (λ e. omega arith)) refl

@@ -1,5 +1,5 @@
 -- What the kinds of C stand for: 3 and 4 are lines, 5 and 8 discs, 6 and 9 rings, 10 is a triangle.
-use Rattle.std.proofs.Common.{◌≡◌, Bool, true, false, ◌||◌, List, ℕ, ◌≤◌, ◌<◌, eqb, ℤ, ◌⊎◌, inl, inr, ne_eqb, arith}
+use Rattle.std.proofs.Common.{◌≡◌, true, false, ◌||◌, List, ℕ, ◌≤◌, ◌<◌, eqb, ℤ, ◌⊎◌, inl, inr, ne_eqb, arith}
 use Rattle.numbers.proofs.Order.{lt_or_le}
 use Rattle.shapes.specs.declared.Shape.TheVariants.{Line as line, Disc as disc, Ring as ring, Triangle as triangle}
 use Rattle.arguments.specs.Taken.{line_of, disc_of, ring_of, triangle_of, taken_by}
