@@ -1,6 +1,6 @@
 -- The band of a line between two edges, in the line's own columns and rows. `band` of proofs/Band shows that the exact coverage is the
 -- area under the upper edge less that under the lower one (R3.4).
-use Rattle.std.specs.Prelude.{ℕ, ◌+◌, ◌*◌, ℤ, pos, negsuc, ◌+ℤ◌, ◌-ℤ◌, ◌*ℤ◌}
+use Rattle.std.specs.Prelude.{ℕ, ◌*◌, ℤ, pos, negsuc, ◌+ℤ◌, ◌-ℤ◌, ◌*ℤ◌}
 use Rattle.edges.specs.Edge.{edge_n, edge_d}
 
 -- An edge that starts h half rows above the first end and is 2·s half rows higher where the line ends: what it has under it of the
