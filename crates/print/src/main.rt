@@ -6,7 +6,6 @@ ghost use Rattle.std.specs.Io.KnownBytes.{Appends};
 ghost use Rattle.print.specs.Printed.{list_text, outcome_text};
 
 use drawing::{Answer, Outcome};
-use std::alloc::Global;
 use std::io;
 use std::io::{Read, Write};
 
@@ -41,13 +40,19 @@ fn write_first<W: Write>(to: &mut W, out: &[u8; 262384], n: usize) -> io::Result
     to.write_all(&all[..n])
 }
 
-// Reads a list; of a longer one a byte more than a list may have, so that it is told.
-fn read_list<R: Read + Drop>(alloc: Global, from: R) -> io::Result<Vec<u8>>
-    ensures { IfOk result (λ list. IfSome (R.remaining from) (λ bytes. list.items ≡ take 65537 bytes)) }
+// Reads a list, of a longer one a byte more than a list may have, so that it is told; hands back how many bytes were read.
+fn read_list<R: Read>(from: &mut R, list: &mut [u8; 65537]) -> io::Result<usize>
+    ensures { IfOk result (λ n. (n ≤ 65537) × IfSome (R.remaining from.old) (λ bytes. take n list.new ≡ take 65537 bytes)) }
 {
-    let mut list = Vec::with_capacity(alloc, 65_537)?;
-    from.take(65_537).read_to_end(&mut list)?;
-    Ok(list)
+    let mut at: usize = 0;
+    while at < 65537 {
+        let n = from.read(&mut list[at..])?;
+        if n == 0 {
+            return Ok(at);
+        }
+        at += n;
+    }
+    Ok(at)
 }
 
 // Draws a list on a page of zeros and writes what is printed for it.
@@ -62,13 +67,15 @@ fn write_list<W: Write>(to: &mut W, list: &[u8]) -> io::Result<()>
 }
 
 // Writes what is printed for the list that a reader has.
-fn print_list<R: Read + Drop, W: Write>(alloc: Global, from: R, to: &mut W) -> io::Result<()>
-    ensures { OnOk result (IfSome (R.remaining from) (λ bytes. Appends (W.contents to.old) (W.contents to.new) (list_text bytes (replicate 65536 0)))) }
+fn print_list<R: Read, W: Write>(from: &mut R, to: &mut W) -> io::Result<()>
+    ensures { OnOk result (IfSome (R.remaining from.old) (λ bytes. Appends (W.contents to.old) (W.contents to.new) (list_text bytes (replicate 65536 0)))) }
 {
-    let list = read_list(alloc, from)?;
-    write_list(to, &list)
+    let mut list = [0u8; 65537];
+    let n = read_list(from, &mut list)?;
+    let all = &list[..];
+    write_list(to, &all[..n])
 }
 
 fn main(rt: HostRuntime) -> io::Result<()> {
-    print_list(rt.alloc(), rt.reader(), &mut io::writer(&rt))
+    print_list(&mut rt.reader(), &mut io::writer(&rt))
 }
