@@ -16,7 +16,7 @@ use Rattle.shapes.specs.declared.Record.TheVariants.{End as end, Setting as sett
 use Rattle.settings.specs.Drawing.{Drawing, drawing_of}
 use Rattle.lists.specs.inner.Walk.{players_in}
 use Rattle.settings.specs.declared.Settings.{Settings}
-use Rattle.drawing.specs.Counts.{drawing_count, shapes_count, pixels_count, own_of, by_player, player_counts, on_first, Counted}
+use Rattle.drawing.specs.Counts.{drawing_count, shapes_count, own_of, by_player, player_counts, on_first, Counted}
 use Rattle.drawing.specs.inner.Walk.{AllLawful}
 use Rattle.drawing.proofs.Shapes.{counts_same}
 

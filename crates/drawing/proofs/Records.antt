@@ -12,7 +12,6 @@ use Rattle.numbers.proofs.Sum.{total_++}
 use Rattle.limits.specs.Limits.{shape_refusal, record_refusal}
 use Rattle.limits.proofs.Limits.{basis-size, record_shape}
 use Rattle.shapes.specs.declared.Shape.{Shape}
-use Rattle.shapes.specs.declared.Setting.TheVariants.{Clip as clip, Level as level, Player as player}
 use Rattle.shapes.specs.declared.Basis.{Basis}
 use Rattle.shapes.specs.declared.Record.{Record}
 use Rattle.shapes.specs.declared.Record.TheVariants.{End as end, Setting as setting, Shape as shape}

@@ -1,6 +1,6 @@
 -- What makes n over d the area under an edge. The pixel is cut into m slices of one width. In a slice no height, brought into the row,
 -- is below both that at its left side and that at its right, nor above both: the area lies between the sum of the lower ones and the
--- sum of the higher ones, for every m. `edge-area` of proofs/Slices shows that the rule gives such a number, `edge-only` that no other is one.
+-- sum of the higher ones, for every m. `edge_area` of proofs/Slices shows that the rule gives such a number, `edge_only` that no other is one.
 use Rattle.std.specs.Prelude.{ℕ, ◌+◌, ◌*◌, ◌≤◌, min, max, ℤ, pos, ◌+ℤ◌, ◌-ℤ◌, ◌*ℤ◌}
 use Rattle.numbers.specs.Sum.{sum_to}
 use Rattle.edges.specs.Edge.{in_row}

@@ -1,5 +1,5 @@
 -- Integers as differences of naturals. `Diff z a b` says that z is a − b. Sums, products and negations of differences are differences
--- again, so an equation or an order of integers comes to one of naturals: `diff-unique p q (omega arith)`.
+-- again, so an equation or an order of integers comes to one of naturals: `diff_unique p q (omega arith)`.
 use mathlib.Core.Path.{◌≡◌, ap, subst}
 use mathlib.Core.Bool.{Bool, true, false, not, cond}
 use Prim.Native.Nat.{ℕ, zero, suc, ◌+◌, ◌*◌, ◌-◌, ◌^◌, ◌≤◌, ◌<◌}

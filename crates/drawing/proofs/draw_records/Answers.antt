@@ -1,6 +1,5 @@
 -- At each record what is left, drawn on the page as it is and added to the count, makes the whole: an end leaves nothing.
 use mathlib.Core.Path.{refl, ap, ◌∙◌}
-use Prim.Native.Nat.{◌-◌}
 use native.Mathlib.Omega.{arith}
 use lib.ListN.{length}
 use Rattle.lights.specs.inner.Palette.{lights_in}

@@ -1,4 +1,4 @@
--- The tests are those of `disc-refusals`, by the offsets that the call gave: the coordinates come back from their locals as they were.
+-- The tests are those of `disc_refusals`, by the offsets that the call gave: the coordinates come back from their locals as they were.
 use mathlib.Core.Path.{◌≡◌}
 use Prim.Native.Nat.{ℕ}
 use mathlib.Core.Bool.{cond, ◌||◌}

@@ -1,4 +1,4 @@
--- The tests are those of `line-refusals`, by the offsets that the call gave. `far` says that the first four tests were passed.
+-- The tests are those of `line_refusals`, by the offsets that the call gave. `far` says that the first four tests were passed.
 use mathlib.Core.Path.{◌≡◌}
 use mathlib.Core.Bool.{cond, ◌&&◌, ◌||◌}
 use borrow.Author.Tests.{lt-ltb, le-ltb, eq-eqb, ne_eqb}

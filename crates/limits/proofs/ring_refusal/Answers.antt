@@ -1,4 +1,4 @@
--- The refusal of the disc around the ring, then the two tests of the width, as `ring-refusals` has them.
+-- The refusal of the disc around the ring, then the two tests of the width, as `ring_refusals` has them.
 use mathlib.Core.Path.{◌≡◌, sym, ◌∙◌, ap₂, subst}
 use mathlib.Core.Bool.{cond, ◌||◌}
 use Prim.Native.Nat.{ℕ}

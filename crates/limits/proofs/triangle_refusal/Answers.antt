@@ -1,4 +1,4 @@
--- The tests are those of `triangle-refusals`, by the offsets that the call gave: `far` is what the first test compares, `wide` the second.
+-- The tests are those of `triangle_refusals`, by the offsets that the call gave: `far` is what the first test compares, `wide` the second.
 use mathlib.Core.Path.{◌≡◌, ◌∙◌, ap₂, subst}
 use mathlib.Core.Bool.{cond}
 use Prim.Native.Nat.{ℕ, ◌≤◌, max}

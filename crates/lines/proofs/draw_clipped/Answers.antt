@@ -1,6 +1,5 @@
 -- Each step extends the walk by one column, until it has come to end; before it has begun, nothing is drawn.
 use mathlib.Core.Path.{refl, ◌∙◌}
-use Prim.Native.Nat.{◌-◌}
 use native.Mathlib.Omega.{arith}
 use Rattle.lines.proofs.Walk.{extended_none, extended_join, walk_begins, none-drawn}
 use Rattle.lines.proofs.draw_clipped.Goals as goal

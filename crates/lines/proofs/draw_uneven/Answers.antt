@@ -1,7 +1,7 @@
 -- Each step extends the walk by one column, until it has come to end. Rows only rise, so that all columns lie inside as the first and the
 -- last do.
 use mathlib.Core.Path.{refl, ◌∙◌}
-use Prim.Native.Nat.{◌-◌, ◌<◌}
+use Prim.Native.Nat.{◌<◌}
 use native.Mathlib.Omega.{arith}
 use Rattle.lines.proofs.Walk.{extended_none, extended_join, walk_begins, steppable, inner-at, none-drawn}
 use Rattle.lines.proofs.draw_uneven.Goals as goal

@@ -1,8 +1,7 @@
 -- Each turn reads behind what stands in the buffer, until the reader is at its end or the buffer is full.
-use Rattle.std.proofs.Common.{◌≡◌, ℕ, ◌+◌, ◌≤◌, ◌<◌, ◌-◌, List, [], length, take, ◌∙◌, ap, arith}
+use Rattle.std.proofs.Common.{◌≡◌, ℕ, ◌≤◌, ◌<◌, ◌-◌, [], length, take, ◌∙◌, ap, arith}
 use Rattle.std.proofs.lemmas.List.{length-take-le}
 use Rattle.std.proofs.lemmas.Slice.{take-put_mid_below}
-use Rattle.std.specs.Io.KnownBytes.{Consumes}
 use Rattle.print.proofs.Reading.{as_long, front_more, consumes_more, ended, read_all, read_full}
 use Rattle.print.proofs.read_list.Goals as goal
 

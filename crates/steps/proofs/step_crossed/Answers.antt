@@ -1,6 +1,5 @@
 -- Inside the clip all three rows are shown; the two lower ones always have something, and the upper one is tried.
 use mathlib.Core.Path.{refl}
-use Prim.Native.Nat.{◌-◌}
 use native.Mathlib.Omega.{arith}
 use Rattle.lights.specs.inner.Palette.{lights_in}
 use Rattle.page.specs.inner.Ink.{ink_of}

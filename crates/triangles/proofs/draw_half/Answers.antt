@@ -2,7 +2,7 @@
 use Prim.Native.Nat.{◌*◌}
 use Rattle.sides.specs.inner.Offsets.{at, row_d}
 use Rattle.triangles.specs.inner.Row.{beside_on}
-use Rattle.triangles.proofs.Rows.{rows_none, rows_back, beside, crossed, between-rises}
+use Rattle.triangles.proofs.Rows.{rows_none, rows_back, beside, between-rises}
 use Rattle.triangles.proofs.draw_half.Goals as goal
 
 pub returns-then-end-from : goal.returns-then-end-from

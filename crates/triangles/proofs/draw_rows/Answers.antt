@@ -1,5 +1,5 @@
 -- Rows from `from` to before y are drawn, and the count is theirs.
-use Prim.Native.Nat.{◌-◌, ◌*◌}
+use Prim.Native.Nat.{◌*◌}
 use native.Mathlib.Omega.{arith}
 use Rattle.page.proofs.Drawn.{drawn-count}
 use Rattle.triangles.specs.inner.Row.{between_on}

@@ -6,7 +6,6 @@ use Rattle.shapes.specs.declared.Record.TheVariants.{Shape as shape}
 use Rattle.limits.proofs.Limits.{kept}
 use Rattle.format.specs.Format.{kind_of}
 use Rattle.format.proofs.Bytes.{record_size_lem}
-use borrow.Author.Rules.{rules}
 use Rattle.answers.proofs.record.ring_answer.Goals as goal
 
 pub returns : goal.returns

@@ -1,6 +1,6 @@
 -- Invariant: the answer is what the bytes from the place on give, with what was counted before (`Reached`). Each turn passes a record, so that
 -- what is left of the list falls.
-use Prim.Native.Nat.{◌+◌, ◌-◌, ◌≤◌, ◌<◌}
+use Prim.Native.Nat.{◌+◌, ◌≤◌, ◌<◌}
 use native.Mathlib.Omega.{arith}
 use lib.ListN.{length, get_or}
 use Rattle.format.specs.Format.{header_size, kind_size}
