@@ -10,12 +10,11 @@ ghost use Rattle.blending.specs.inner.Scale.{Scaled};
 
 use lights::palette::{FIRST_GUESS, GUESS_MOST, PALETTE, STRETCH, middle_of, reach};
 
-// 1 where y is at most x, else 0: no branch, as lights cannot make either likely.
+// 1 where y is at most x, else 0: a number, as a branch that lights cannot make likely either way would cost more.
 fn at_most(y: u64, x: u64) -> usize
-    requires { (y < 2 ^ 63) × (x < 2 ^ 63) }
     ensures { AtMost y x result × (result ≤ 1) }
 {
-    ((x + 9223372036854775808 - y) / 9223372036854775808) as usize
+    usize::from(y <= x)
 }
 
 // Middle k times d.
