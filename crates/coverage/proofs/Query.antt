@@ -17,7 +17,7 @@ use Rattle.shapes.specs.declared.Point.{Point}
 use Rattle.shapes.specs.declared.Shape.{Shape}
 use Rattle.limits.proofs.Limits.{outside_offset, point_kept}
 use Rattle.coverage.specs.Coverage.{query_refusal, ratio_of, queried}
-use Rattle.coverage.specs.declared.Ratio.{Ratio}
+use Rattle.numbers.specs.declared.Ratio.{Ratio}
 use Rattle.coverage.specs.declared.Answer.TheVariants.{Covered, Refused}
 
 either : (t : Bool) → ◌≡◌ {A = ℕ} 7 (cond t 7 7)

@@ -11,7 +11,7 @@ use Rattle.bands.specs.Frame.{column_of, frame_row}
 use Rattle.chords.specs.Circle.{disc_cover, ring_cover}
 use Rattle.sides.specs.Triangle.{triangle_cover, triangle_whole}
 use Rattle.shapes.specs.declared.Triangle.{Triangle}
-use Rattle.coverage.specs.declared.Ratio.{Ratio}
+use Rattle.numbers.specs.declared.Ratio.{Ratio}
 use Rattle.coverage.specs.declared.Answer.{Answer}
 use Rattle.coverage.specs.declared.Answer.TheVariants.{Covered, Refused}
 

@@ -7,12 +7,7 @@ ghost use Rattle.limits.specs.Limits.{shape_refusal};
 ghost use Rattle.shapes.specs.declared.Shape.TheVariants.{Line as asLine, Disc as asDisc, Ring as asRing, Triangle as asTriangle};
 ghost use Rattle.coverage.specs.Coverage.{query_refusal, ratio_of, queried};
 
-// A coverage of n over d.
-#[derive(Clone, Copy)]
-pub struct Ratio {
-    pub n: u64,
-    pub d: u64,
-}
+pub use numbers::Ratio;
 
 #[derive(Clone, Copy)]
 pub enum Answer {
@@ -108,11 +103,7 @@ fn triangle_ratio(triangle: shapes::Triangle, x: i16, y: i16) -> Ratio
     requires { (shape_refusal (asTriangle triangle) ≡ 0) × (in_range x ≡ true) × (in_range y ≡ true) }
     ensures { result ≡ ratio_of (asTriangle triangle) x y }
 {
-    let cover = sides::triangle_cover(triangle, x, y);
-    Ratio {
-        n: cover.n,
-        d: cover.d,
-    }
+    sides::triangle_cover(triangle, x, y)
 }
 
 // The coverage of pixel (x, y) by a shape, n and d as its rule gives them, or the number of the refusal.

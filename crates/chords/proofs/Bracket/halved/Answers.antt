@@ -2,14 +2,14 @@
 use Prim.Native.Nat.{◌+◌, ◌/◌}
 use native.Mathlib.Omega.{arith}
 use Rattle.chords.proofs.Chord.{narrowed_up, narrowed_down}
-use Rattle.chords.proofs.halved.Goals as goal
+use Rattle.chords.proofs.Bracket.halved.Goals as goal
 
 pub returns-then-odd-m : goal.returns-then-odd-m
 returns-then-odd-m c =
     let a = c.args in
-    narrowed_up a.low a.high ((a.low + a.high) / 2) a.m (omega arith) (omega arith) c.if-odd-m.true
+    narrowed_up a.self.low a.self.high ((a.self.low + a.self.high) / 2) a.m (omega arith) (omega arith) c.if-odd-m.true
 
 pub returns-else-odd-m : goal.returns-else-odd-m
 returns-else-odd-m c =
     let a = c.args in
-    narrowed_down a.low a.high ((a.low + a.high) / 2) a.m (omega arith) (omega arith) c.if-odd-m.false
+    narrowed_down a.self.low a.self.high ((a.self.low + a.self.high) / 2) a.m (omega arith) (omega arith) c.if-odd-m.false
