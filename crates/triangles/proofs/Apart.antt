@@ -2,14 +2,13 @@
 use Rattle.std.proofs.Common.{◌≡◌, refl, List, ℕ, ◌+◌, ◌*◌, ◌≤◌, ◌<◌, min, max, length, arith}
 use mathlib.Core.Logic.{⊎_elim}
 use Rattle.numbers.specs.inner.Offset.{origin}
-use Rattle.page.specs.inner.Ink.{ink_of}
 use Rattle.page.specs.inner.Paint.{clamped, Lawful, Filled}
 use Rattle.page.specs.declared.View.{View}
 use Rattle.page.proofs.Clamp.{clamped_low, clamped_high, clamped-rises, before-clamped, from_clamped, between-clamped}
 use Rattle.page.proofs.Drawn.{drawn_beside, drawn_full, drawn-row, drawn-length, drawn-count}
 use Rattle.page.proofs.Same.{drawn-alike}
 use Rattle.triangles.specs.inner.Side.{left_of, CutFit}
-use Rattle.triangles.specs.inner.Row.{right_of, between_of, RowDrawn, Stretch, Ready}
+use Rattle.triangles.specs.inner.Row.{right_of, between_of, RowDrawn, Stretch, Alike, Ready}
 use Rattle.triangles.specs.declared.side.Cut.{Cut}
 use Rattle.triangles.proofs.Between.{whole_both, equal_left, equal_right, whole-between, none_before, none-past}
 
@@ -19,7 +18,7 @@ below_both z p q h = (omega arith, omega arith)
 above_both : (z p q : ℕ) → max p q ≤ z → (p ≤ z) × (q ≤ z)
 above_both z p q h = (omega arith, omega arith)
 
-module _ {view : View} {size : ℕ} {a b : Cut} {y : ℕ} (ready : Ready view size a b y) where
+module _ {view : View} {size : ℕ} {a b : Cut} {e e' y : ℕ} (ready : Ready view size a b e e' y) where
   -- a column of the clip
   abbrev clamped_to : ℕ → ℕ
   clamped_to c = clamped view.x0 view.x1 c
@@ -55,33 +54,31 @@ module _ {view : View} {size : ℕ} {a b : Cut} {y : ℕ} (ready : Ready view si
       (rw (ep, eq) at d)
 
   -- a leaves off before b begins: edges, and what is whole between them
-  -- in inks of one level in one kind of lights, of which that of both leaves the level where it is whole
-  module _ (apart : a.end ≤ b.column) (lights : List ℕ) (level : ℕ) where
-    abbrev ink : ℕ → ℕ → ℕ
-    ink = ink_of lights level (a.d * b.d)
-
+  module _ (apart : a.end ≤ b.column) (ink : ℕ → ℕ → ℕ) where
     abbrev clip : view.x0 ≤ view.x1
     clip = ready.lawful.x-order
 
-    left_edge : {l m : List ℕ} {t : ℕ} → RowDrawn view (ink_of lights level a.d) (right_of a) y (clamped_to a.column) (clamped_to a.end) l m t
+    left_edge : (own : ℕ → ℕ → ℕ) {l m : List ℕ} {t : ℕ} → Alike own a.d ink (a.d * b.d)
+        → RowDrawn view own (right_of a) y (clamped_to a.column) (clamped_to a.end) l m t
         → RowDrawn view ink (between_of a b) y (clamped_to a.column) (clamped_to a.end) l m t
-    left_edge =
-        drawn-alike lights level (clamped_to a.column) y (clamped_to a.end) (y + 1) a.d (a.d * b.d)
-        (λ x _. right_of a (x + origin)) (λ x _. between_of a b (x + origin))
+    left_edge own alike =
+        drawn-alike own ink (clamped_to a.column) y (clamped_to a.end) (y + 1) a.d (a.d * b.d)
+        (λ x _. right_of a (x + origin)) (λ x _. between_of a b (x + origin)) alike.same
         (λ x z i.
         equal_left a b ready.first ready.second apart (x + origin)
         (omega (arith, (between-clamped view.x0 view.x1 a.column a.end x clip i.left i.right).1)))
 
-    right_edge : {l m : List ℕ} {t : ℕ} → RowDrawn view (ink_of lights level b.d) (left_of b) y (clamped_to b.column) (clamped_to b.end) l m t
+    right_edge : (own : ℕ → ℕ → ℕ) {l m : List ℕ} {t : ℕ} → Alike own b.d ink (a.d * b.d)
+        → RowDrawn view own (left_of b) y (clamped_to b.column) (clamped_to b.end) l m t
         → RowDrawn view ink (between_of a b) y (clamped_to b.column) (clamped_to b.end) l m t
-    right_edge =
-        drawn-alike lights level (clamped_to b.column) y (clamped_to b.end) (y + 1) b.d (a.d * b.d)
-        (λ x _. left_of b (x + origin)) (λ x _. between_of a b (x + origin))
+    right_edge own alike =
+        drawn-alike own ink (clamped_to b.column) y (clamped_to b.end) (y + 1) b.d (a.d * b.d)
+        (λ x _. left_of b (x + origin)) (λ x _. between_of a b (x + origin)) alike.same
         (λ x z i.
         equal_right a b ready.first ready.second apart (x + origin)
         (omega (arith, (between-clamped view.x0 view.x1 b.column b.end x clip i.left i.right).0)))
 
-    inside : {l m : List ℕ} {t : ℕ} → ((u : ℕ) → ink (a.d * b.d) u ≡ level) → Filled view.w view.h level y (clamped_to a.end) (clamped_to b.column) l m t
+    inside : {level : ℕ} {l m : List ℕ} {t : ℕ} → ((u : ℕ) → ink (a.d * b.d) u ≡ level) → Filled view.w view.h level y (clamped_to a.end) (clamped_to b.column) l m t
         → RowDrawn view ink (between_of a b) y (clamped_to a.end) (clamped_to b.column) l m t
     inside leaves filled =
         let d : ℕ = a.d * b.d in
@@ -92,13 +89,14 @@ module _ {view : View} {size : ℕ} {a b : Cut} {y : ℕ} (ready : Ready view si
         whole-between a b ready.first ready.second apart (x + origin) r.0 r.1)
         (filled ink d some leaves)
 
-    pub apart-drawn : {p q r s : ℕ} {l₀ l₁ l₂ l₃ : List ℕ} {t u v : ℕ} → ((u : ℕ) → ink (a.d * b.d) u ≡ level)
+    pub apart-drawn : (first second : ℕ → ℕ → ℕ) {d d' d'' level p q r s : ℕ} {l₀ l₁ l₂ l₃ : List ℕ} {t u v : ℕ}
+        → d ≡ a.d → d' ≡ b.d → d'' ≡ d * d' → Alike first d ink d'' → Alike second d' ink d'' → ((u : ℕ) → ink d'' u ≡ level)
         → p ≡ clamped_to a.column → q ≡ clamped_to a.end → r ≡ clamped_to b.column → s ≡ clamped_to b.end
-        → RowDrawn view (ink_of lights level a.d) (right_of a) y p q l₀ l₁ t
+        → RowDrawn view first (right_of a) y p q l₀ l₁ t
         → Filled view.w view.h level y q r l₁ l₂ u
-        → RowDrawn view (ink_of lights level b.d) (left_of b) y r s l₂ l₃ v
+        → RowDrawn view second (left_of b) y r s l₂ l₃ v
         → RowDrawn view ink (between_of a b) y view.x0 view.x1 l₀ l₃ (t + u + v)
-    apart-drawn leaves ep eq er es first middle last =
+    apart-drawn first second ed ed' eb alike alike' leaves ep eq er es left middle right =
         let f = ready.first in
         let g = ready.second in
         let n : ℕ → ℕ → ℕ = λ x _. between_of a b (x + origin) in
@@ -111,9 +109,9 @@ module _ {view : View} {size : ℕ} {a b : Cut} {y : ℕ} (ready : Ready view si
         (drawn_beside n y (clamped_to a.column) (clamped_to a.end) (clamped_to b.column)
         (clamped-rises view.x0 view.x1 a.column a.end f.order)
         (clamped-rises view.x0 view.x1 a.end b.column apart)
-        (left_edge (rw (ep, eq) at first))
-        (inside leaves (rw (eq, er) at middle)))
-        (right_edge (rw (er, es) at last)))
+        (left_edge first (rw (eb, ed, ed') at alike) (rw (ep, eq) at left))
+        (inside (rw (eb, ed, ed') at leaves) (rw (eq, er) at middle)))
+        (right_edge second (rw (eb, ed, ed') at alike') (rw (er, es) at right)))
 
 -- ---- a page that was drawn on is as long as before
 pub stretch_after : {view : View} {size size' y from end : ℕ} → size' ≡ size → Stretch view size y from end → Stretch view size' y from end

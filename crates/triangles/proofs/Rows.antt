@@ -4,7 +4,7 @@ use mathlib.Core.Bool.{true, false}
 use mathlib.Core.List.{List}
 use mathlib.Core.Logic.{⊎_elim}
 use Prim.Native.Nat.{ℕ, ◌+◌, ◌*◌, ◌≤◌, ◌<◌}
-use native.Mathlib.Nat.{mul_comm, mul-le-mul, mul-le-mul_left, mul-le-mul_right}
+use native.Mathlib.Nat.{mul-le-mul, mul-le-mul_left, mul-le-mul_right}
 use native.Mathlib.Omega.{arith}
 use borrow.Author.Tests.{le-leb, lt-leb}
 use lib.IntN.{pos}
@@ -19,7 +19,7 @@ use Rattle.page.specs.declared.View.{View}
 use Rattle.page.proofs.Clamp.{clamped_low, clamped_high, clamped-rises, before-clamped, from_clamped, between-clamped}
 use Rattle.page.proofs.Clip.{Inside, Outside, left_of_lem, right_of, above, below, clip_ext, clip_zero, clip_shrink, clip-rows}
 use Rattle.page.proofs.Drawn.{drawn-none, drawn_ext, drawn_join}
-use Rattle.page.proofs.Same.{drawn-alike}
+use Rattle.page.proofs.Same.{drawn-alike, ink_same}
 use Rattle.shapes.specs.inner.Offsets.{corners_of}
 use Rattle.shapes.specs.declared.Corners.{Corners}
 use Rattle.shapes.specs.declared.Triangle.{Triangle}
@@ -33,7 +33,7 @@ use Rattle.sides.proofs.Placed.{cover_placed, whole-placed}
 use Rattle.coverage.specs.Coverage.{rules_of, drawn_d}
 use Rattle.coverage.specs.inner.OnPage.{shape_on}
 use Rattle.triangles.specs.inner.Side.{left_on, SideIs, CutOf}
-use Rattle.triangles.specs.inner.Row.{between_of, between_on, beside_on, RowDrawn, RowsDrawn, Between, Crossed}
+use Rattle.triangles.specs.inner.Row.{between_of, between_on, beside_on, Alike, RowDrawn, RowsDrawn, Between, Crossed}
 use Rattle.triangles.specs.inner.Order.{Sorted}
 use Rattle.triangles.specs.declared.side.Side.{Side}
 use Rattle.triangles.specs.declared.side.Cut.{Cut}
@@ -76,14 +76,13 @@ rows_next view ink s t from y {a} {b} h p q before row =
     (row_of view ink (between_on s t) (between_of a b) y (between_cuts p q).1 row)
 
 -- drawn between t and s is drawn between s and t
-pub rows_back : (lights : List ℕ) (level : ℕ) (view : View) (s t : Side) (from end : ℕ) {l m : List ℕ} {u : ℕ}
-    → RowsDrawn view (ink_of lights level (t.d * s.d)) (between_on t s) from end l m u
-    → RowsDrawn view (ink_of lights level (s.d * t.d)) (between_on s t) from end l m u
-rows_back lights level view s t from end d =
+pub rows_back : {ink : ℕ → ℕ → ℕ} (view : View) (s t : Side) (from end : ℕ) {l m : List ℕ} {u : ℕ}
+    → RowsDrawn view ink (between_on t s) from end l m u
+    → RowsDrawn view ink (between_on s t) from end l m u
+rows_back view s t from end =
     drawn_ext _
     (clip_ext view.x0 from view.x1 end (λ x y. between_on t s (x + origin) (y + origin)) (λ x y. between_on s t (x + origin) (y + origin))
     (λ x y _. same (left_on s (x + origin) (y + origin) * t.d) (left_on t (x + origin) (y + origin) * s.d)))
-    (rw (mul_comm t.d s.d) at d)
   where
     same : (a b : ℕ) → dist b a ≡ dist a b
     same a b = omega arith
@@ -100,6 +99,11 @@ within p q b = record { order = b.order; below = λ y u v. omega (arith, b.below
 
 pub between-rises : {low high from end : ℕ} → Between low high from end → from < end → low < high
 between-rises {from = from} b h = omega (arith, b.below from (omega arith) h, b.above from (omega arith) h)
+
+-- inks of a level in some lights
+pub alike_in : {ink ink' : ℕ → ℕ → ℕ} {d d' e e' : ℕ} (lights : List ℕ) (level : ℕ) → ink ≡ ink_of lights level e → d ≡ e → ink' ≡ ink_of lights level e' → d' ≡ e'
+    → Alike ink d ink' d'
+alike_in {e = e} {e'} lights level p q p' q' = rw (p, q, p', q') (record { same = ink_same lights level e e' })
 
 -- ---- half a triangle
 -- by the side as the code holds it, and by its corners
@@ -201,14 +205,14 @@ module _ (lights : List ℕ) (level : ℕ) (view : View) (c : Corners) (long : S
       → RowsDrawn view (ink_of lights level (row_d (at c.x0 c.y0) (at c.x1 c.y1) * long.d)) (beside_on c.x0 c.y0 c.x1 c.y1 long) from end l m t
       → RowsDrawn view (ink_of lights level (offset_d c)) (offset_n c) from end l m t
   lower_half {from} {end} b =
-      drawn-alike lights level view.x0 from view.x1 end _ _ _ (λ x y. offset_n c (x + origin) (y + origin))
+      drawn-alike _ _ view.x0 from view.x1 end _ _ _ (λ x y. offset_n c (x + origin) (y + origin)) (ink_same lights level _ _)
       (λ x y k. lower_equal c long i (x + origin) (y + origin) (b.below y k.top k.bottom) (b.above y k.top k.bottom) q)
 
   pub upper_half : {from end : ℕ} {l m : List ℕ} {t : ℕ} → Between c.y1 c.y2 from end
       → RowsDrawn view (ink_of lights level (row_d (at c.x1 c.y1) (at c.x2 c.y2) * long.d)) (beside_on c.x1 c.y1 c.x2 c.y2 long) from end l m t
       → RowsDrawn view (ink_of lights level (offset_d c)) (offset_n c) from end l m t
   upper_half {from} {end} b =
-      drawn-alike lights level view.x0 from view.x1 end _ _ _ (λ x y. offset_n c (x + origin) (y + origin))
+      drawn-alike _ _ view.x0 from view.x1 end _ _ _ (λ x y. offset_n c (x + origin) (y + origin)) (ink_same lights level _ _)
       (λ x y k. upper_equal c long i (x + origin) (y + origin) p (b.below y k.top k.bottom) (b.above y k.top k.bottom))
 
 -- rows that the triangle does not meet have nothing

@@ -5,8 +5,6 @@ pub mod side; // side.rt: a side, and where it stands in a row
 pub mod row; // row.rt: a row between two sides
 
 ghost use Rattle.std.specs.Prelude.{◌≡◌, ◌+◌, ◌-◌, ◌*◌, ◌≤◌, ◌<◌, ltb, length};
-ghost use Rattle.lights.specs.inner.Palette.{lights_in, Palette};
-ghost use Rattle.blending.specs.inner.Scale.{Scaled};
 ghost use Rattle.page.specs.inner.Ink.{ink_of};
 ghost use Rattle.page.specs.inner.Paint.{Lawful, DrawnIn};
 ghost use Rattle.limits.specs.Limits.{shape_refusal};
@@ -19,7 +17,8 @@ ghost use Rattle.triangles.specs.inner.Row.{between_on, beside_on, RowsDrawn, Cr
 ghost use Rattle.triangles.specs.inner.Order.{corners, rising, Sorted};
 
 use numbers::product;
-use page::{View, clamp_offset};
+use page::{Ink, Palette, View, clamp_offset};
+use row::Inks;
 use shapes::{Corners, Point};
 use side::Side;
 use std::ops::Range;
@@ -53,77 +52,78 @@ fn bends_left(a: Point, b: Point, c: Point) -> bool
 }
 
 // Draws rows that both sides cross, s on the left of t.
-fn draw_rows(
+fn draw_rows<I: Ink>(
     page: &mut [u8],
-    palette: &[u16],
+    inks: &Inks<I>,
     view: View,
     s: Side,
     t: Side,
-    level: u8,
     rows: Range<usize>,
 ) -> u64
-    requires palette { Palette palette.now × Lawful view (length page.old) × SideFit s × SideFit t }
-    requires scaled { Scaled palette.now s.d s.m × Scaled palette.now t.d t.m × Crossed view s rows.start rows.end × Crossed view t rows.start rows.end }
-    ensures { RowsDrawn view (ink_of (lights_in palette.now) level (s.d * t.d)) (between_on s t) rows.start rows.end page.old page.new result }
+    requires fit { Lawful view (length page.old) × SideFit s × SideFit t × (I.whole inks.now.first ≡ s.d) × (I.whole inks.now.second ≡ t.d) }
+    requires crossed { Crossed view s rows.start rows.end × Crossed view t rows.start rows.end }
+    ensures { RowsDrawn view (I.blends inks.now.both) (between_on s t) rows.start rows.end page.old page.new result }
 {
-    let d = product(s.d, t.d);
-    let m = blending::scale_of(palette, d);
     let mut touched: u64 = 0;
     for y in rows {
         let z = y as u64 + numbers::ORIGIN;
-        touched += row::draw_row(
-            page,
-            palette,
-            view,
-            s.cut_at(z),
-            t.cut_at(z),
-            d,
-            m,
-            level,
-            y,
-        );
+        touched += row::draw_row(page, inks, view, s.cut_at(z), t.cut_at(z), y);
     }
     touched
 }
 
 // Draws rows between the side from corner a up to corner b and another, which both cross them; `left` tells which is on the left, for the
 // sake of speed alone.
-fn draw_half(
+fn draw_half<P: Palette>(
     page: &mut [u8],
-    palette: &[u16],
+    palette: P,
     view: View,
     a: Point,
     b: Point,
     long: Side,
+    ink: P::Ink,
     left: bool,
     level: u8,
     rows: Range<usize>,
 ) -> u64
-    requires palette { Palette palette.now × Lawful view (length page.old) × Near a.x a.y b.x b.y × SideFit long × Scaled palette.now long.d long.m }
+    requires fit { Lawful view (length page.old) × Near a.x a.y b.x b.y × SideFit long }
+    requires inked { (P.Ink.blends ink ≡ ink_of (P.lights palette) level long.d) × (P.Ink.whole ink ≡ long.d) }
     requires crossed { Crossed view long rows.start rows.end × Between a.y b.y rows.start rows.end }
-    ensures { RowsDrawn view (ink_of (lights_in palette.now) level (row_d (at a.x a.y) (at b.x b.y) * long.d)) (beside_on a.x a.y b.x b.y long) rows.start rows.end page.old page.new result }
+    ensures { RowsDrawn view (ink_of (P.lights palette) level (row_d (at a.x a.y) (at b.x b.y) * long.d)) (beside_on a.x a.y b.x b.y long) rows.start rows.end page.old page.new result }
 {
     if rows.is_empty() {
         return 0;
     }
-    let side = Side::new(palette, a, b);
+    let side = Side::new(a, b);
+    let own = palette.ink(level, side.d);
+    let both = palette.ink(level, product(side.d, long.d));
     if left {
-        draw_rows(page, palette, view, side, long, level, rows)
+        let inks = Inks {
+            first: own,
+            second: ink,
+            both,
+        };
+        draw_rows(page, &inks, view, side, long, rows)
     } else {
-        draw_rows(page, palette, view, long, side, level, rows)
+        let inks = Inks {
+            first: ink,
+            second: own,
+            both,
+        };
+        draw_rows(page, &inks, view, long, side, rows)
     }
 }
 
 // Draws a triangle within the view's clip; hands back how many pixels it touched.
-pub fn draw_triangle(
+pub fn draw_triangle<P: Palette>(
     page: &mut [u8],
-    palette: &[u16],
+    palette: P,
     view: View,
     triangle: shapes::Triangle,
     level: u8,
 ) -> u64
-    requires { Palette palette.now × Lawful view (length page.old) × (shape_refusal (asTriangle triangle) ≡ 0) }
-    ensures { DrawnIn view (ink_of (lights_in palette.now) level (drawn_d (asTriangle triangle))) (shape_on (asTriangle triangle)) page.old page.new result }
+    requires { Lawful view (length page.old) × (shape_refusal (asTriangle triangle) ≡ 0) }
+    ensures { DrawnIn view (ink_of (P.lights palette) level (drawn_d (asTriangle triangle))) (shape_on (asTriangle triangle)) page.old page.new result }
 {
     let (a, b, c) = sorted(shapes::corners_of(triangle));
     let from = clamp_offset(view.y0, view.y1, a.y);
@@ -132,9 +132,32 @@ pub fn draw_triangle(
     if end <= from {
         return 0;
     }
-    let long = Side::new(palette, a, c);
+    let long = Side::new(a, c);
+    let ink = palette.ink(level, long.d);
     let left = bends_left(a, b, c);
-    let lower = draw_half(page, palette, view, a, b, long, left, level, from..middle);
-    let upper = draw_half(page, palette, view, b, c, long, left, level, middle..end);
+    let lower = draw_half(
+        page,
+        palette,
+        view,
+        a,
+        b,
+        long,
+        ink,
+        left,
+        level,
+        from..middle,
+    );
+    let upper = draw_half(
+        page,
+        palette,
+        view,
+        b,
+        c,
+        long,
+        ink,
+        left,
+        level,
+        middle..end,
+    );
     lower + upper
 }

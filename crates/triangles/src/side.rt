@@ -4,8 +4,6 @@ ghost use Rattle.numbers.specs.inner.Inverse.{Inverse};
 ghost use Rattle.numbers.specs.inner.Offset.{offset_most};
 ghost use Rattle.edges.specs.inner.Strip.{span_most, height_most};
 ghost use Rattle.sides.specs.inner.Offsets.{Near};
-ghost use Rattle.lights.specs.inner.Palette.{Palette};
-ghost use Rattle.blending.specs.inner.Scale.{Scaled};
 ghost use Rattle.triangles.specs.inner.Side.{left_of, SideFit, SideIs, CutFit, CutOf};
 ghost use Rattle.triangles.specs.inner.Row.{right_of, between_of};
 
@@ -13,7 +11,7 @@ use shapes::Point;
 
 // A side that goes up h rows from row y on, and over them so many columns to the right, or to the left. In a row it stands between two
 // places that are `right` + `left` apart, in units of which h make a column; `start` is the lower one in its first row. The inverse of h
-// makes a quotient a product. Shares are over d, whose scale is m.
+// makes a quotient a product. Shares are over d.
 #[derive(Clone, Copy)]
 pub struct Side {
     pub y: u64,
@@ -23,7 +21,6 @@ pub struct Side {
     pub start: u64,
     pub inverse: u64,
     pub d: u64,
-    pub m: u64,
 }
 
 // A side in one row: it stands between low and high, and leaves a pixel in part only in columns from `column` to before `end`.
@@ -35,7 +32,6 @@ pub struct Cut {
     pub column: u64,
     pub end: u64,
     pub d: u64,
-    pub m: u64,
 }
 
 // The least whole number above 2^32 over h.
@@ -56,14 +52,13 @@ fn column_of(p: u64, h: u64, inverse: u64) -> u64
 
 impl Side {
     // The side from corner a up to corner b.
-    pub(crate) fn new(palette: &[u16], a: Point, b: Point) -> Side
-        requires { Palette palette.now × Near a.x a.y b.x b.y × (a.y < b.y) }
-        ensures { SideFit result × SideIs a.x a.y b.x b.y result × Scaled palette.now result.d result.m }
+    pub(crate) fn new(a: Point, b: Point) -> Side
+        requires { Near a.x a.y b.x b.y × (a.y < b.y) }
+        ensures { SideFit result × SideIs a.x a.y b.x b.y result × (0 < result.d) × (result.d ≤ 2 ^ 30) }
     {
         let h = b.y - a.y;
         let right = b.x.saturating_sub(a.x);
         let left = a.x.saturating_sub(b.x);
-        let d = edges::whole_of(h, right + left);
         Side {
             y: a.y,
             h,
@@ -71,8 +66,7 @@ impl Side {
             left,
             start: edges::scaled(h, a.x) - left,
             inverse: inverse_of(h),
-            d,
-            m: blending::scale_of(palette, d),
+            d: edges::whole_of(h, right + left),
         }
     }
 
@@ -91,7 +85,6 @@ impl Side {
             column: column_of(low, self.h, self.inverse),
             end: column_of(high + self.h - 1, self.h, self.inverse),
             d: self.d,
-            m: self.m,
         }
     }
 }

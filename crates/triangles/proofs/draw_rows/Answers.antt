@@ -1,56 +1,47 @@
 -- The rows before the next one are drawn, and the count is theirs.
 use Rattle.std.proofs.Common.{◌≡◌, ◌∙◌, refl, ◌+◌, ◌≤◌, ◌<◌, arith}
-use Rattle.lights.specs.inner.Palette.{lights_in}
-use Rattle.page.specs.inner.Ink.{ink_of}
 use Rattle.page.proofs.Drawn.{drawn-count}
 use Rattle.triangles.specs.inner.Row.{between_on}
-use Rattle.triangles.proofs.Standing.{sides_both}
 use Rattle.triangles.proofs.Rows.{rows_none, rows_next}
 use Rattle.triangles.proofs.draw_rows.Goals as goal
 
-pub scale_of-m-requires : goal.scale_of-m-requires
-scale_of-m-requires c =
-    let p = c.requires.palette in
-    let both = sides_both c.args.s c.args.t p.2 p.3 in
-    (p.0, rw c.product-d.ensures.is both.0, rw c.product-d.ensures.is both.1)
-
 pub loop-y-init : goal.loop-y-init
-loop-y-init c =
+loop-y-init g c =
     let a = c.args in
     rw c.into_iter-y-iterator.ensures.into_iter_gives (
       record {
         least = omega arith;
-        most = c.requires.scaled.2.rows.order;
-        drawn = rows_none a.view (ink_of (lights_in a.palette.now) a.level c.product-d.result) (between_on a.s a.t) a.rows.start a.rows.start a.page.now (omega arith);
+        most = c.requires.crossed.0.rows.order;
+        drawn = rows_none a.view (g.I.Ink.blends a.inks.now.both) (between_on a.s a.t) a.rows.start a.rows.start a.page.now (omega arith);
       },
       refl,
     )
 
 pub cut_at-requires : goal.cut_at-requires
-cut_at-requires c =
+cut_at-requires g c =
     let here = c.in-Some.ensures.steps in
     let i = c.loop-y.invariant in
-    let r = c.requires.scaled.2.rows in
+    let r = c.requires.crossed.0.rows in
     let least : c.args.rows.start ≤ c.in-Some.y = omega (arith, here, i.0.least) in
     let less : c.in-Some.y < c.args.rows.end = omega (arith, here, i.1) in
-    (c.requires.palette.2, r.below c.in-Some.y least less, r.above c.in-Some.y least less)
+    (c.requires.fit.1, r.below c.in-Some.y least less, r.above c.in-Some.y least less)
 
 pub cut_at-requires-in-loop-y : goal.cut_at-requires-in-loop-y
-cut_at-requires-in-loop-y c =
+cut_at-requires-in-loop-y g c =
     let here = c.in-Some.ensures.steps in
     let i = c.loop-y.invariant in
-    let r = c.requires.scaled.3.rows in
+    let r = c.requires.crossed.1.rows in
     let least : c.args.rows.start ≤ c.in-Some.y = omega (arith, here, i.0.least) in
     let less : c.in-Some.y < c.args.rows.end = omega (arith, here, i.1) in
-    (c.requires.palette.3, r.below c.in-Some.y least less, r.above c.in-Some.y least less)
+    (c.requires.fit.2, r.below c.in-Some.y least less, r.above c.in-Some.y least less)
 
 pub overflow_add-touched : goal.overflow_add-touched
-overflow_add-touched c =
-    let law = c.requires.palette.1 in
+overflow_add-touched g c =
+    let law = c.requires.fit.0 in
     omega (arith, drawn-count law c.loop-y.invariant.0.drawn, drawn-count law c.draw_row-touched.ensures)
 
 pub loop-y-preserved : goal.loop-y-preserved
-loop-y-preserved c =
+loop-y-preserved g c =
     let a = c.args in
     let here = c.in-Some.ensures.steps in
     let i = c.loop-y.invariant in
@@ -58,15 +49,15 @@ loop-y-preserved c =
       rw next (record {
         least = omega (arith, here, i.0.least);
         most = omega (arith, here, i.1);
-        drawn = rows_next a.view (ink_of (lights_in a.palette.now) a.level c.product-d.result) a.s a.t a.rows.start c.in-Some.y (omega (arith, here, i.0.least))
+        drawn = rows_next a.view (g.I.Ink.blends a.inks.now.both) a.s a.t a.rows.start c.in-Some.y (omega (arith, here, i.0.least))
             c.cut_at.ensures c.cut_at-in-loop-y.ensures (rw (← here.1.1) at i.0.drawn) c.draw_row-touched.ensures;
       }),
       here.0 ∙ i.1,
     )
 
 pub returns : goal.returns
-returns c =
+returns g c =
     let none = c.in-None.ensures.steps in
     let i = c.loop-y.invariant in
     let all : c.loop-y.y-iterator.start ≡ c.args.rows.end = omega (arith, none, i.1, i.0.most) in
-    rw (← c.product-d.ensures.is, ← all) i.0.drawn
+    rw (← all) i.0.drawn

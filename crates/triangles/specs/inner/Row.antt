@@ -1,5 +1,6 @@
 -- A row between two sides, on a page.
 use Rattle.std.specs.Prelude.{◌≡◌, List, ℕ, ◌+◌, ◌-◌, ◌*◌, ◌≤◌, ◌<◌, pos}
+use Rattle.numbers.specs.inner.Equal.{Equal}
 use Rattle.numbers.specs.inner.Offset.{origin, offset_most}
 use Rattle.numbers.specs.inner.Order.{dist}
 use Rattle.sides.specs.inner.Offsets.{at, row_n, row_d}
@@ -48,12 +49,18 @@ Covering pre post d = (z : ℕ) → z ≤ offset_most → pre z × ((k : ℕ) �
 abbrev pub Gives : (ℕ → ℕ → Type 0) → (ℕ → ℕ) → Type 0
 Gives post n = (z k : ℕ) → z ≤ offset_most → post z k → k ≡ n z
 
--- a row of the clip and two cuts of it
-pub record Ready (view : View) (size : ℕ) (a b : Cut) (y : ℕ) : Type 0 where
+-- inks of coverages over d and over d' that leave the same byte at the same share of a pixel
+pub record Alike (ink : ℕ → ℕ → ℕ) (d : ℕ) (ink' : ℕ → ℕ → ℕ) (d' : ℕ) : Type 0 where
+  pub same : (u k k' : ℕ) → Equal k d k' d' → ink k u ≡ ink' k' u
+
+-- a row of the clip and two cuts of it, whose shares are over d and over d'
+pub record Ready (view : View) (size : ℕ) (a b : Cut) (d d' y : ℕ) : Type 0 where
   pub lawful : Lawful view size
   pub row : y < view.h
   pub first : CutFit a
   pub second : CutFit b
+  pub over : d ≡ a.d
+  pub over' : d' ≡ b.d
 
 -- rows from to end lie from offset low to before offset high
 pub record Between (low high from end : ℕ) : Type 0 where
