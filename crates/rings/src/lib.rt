@@ -2,21 +2,24 @@
 #![tactic(auto)]
 
 ghost use Rattle.std.specs.Prelude.{◌≡◌, ℕ, ◌+◌, ◌*◌, ◌≤◌, ◌<◌, min, max, leb, length};
+ghost use Rattle.numbers.specs.inner.Offset.{offset_most};
 ghost use Rattle.limits.specs.Limits.{radius_most};
 ghost use Rattle.chords.specs.Circle.{chords};
-ghost use Rattle.rings.specs.inner.Heights.{at, between, Heights, Nested, Measured};
+ghost use Rattle.rings.specs.inner.Heights.{at, Heights, Nested};
 
 use chords::chord_of;
 
-// The offsets of the centre, the radii of the two circles, the level, and the scale of the blends over 512. A disc has a hole of radius 0.
+// The offsets of the centre, and the radii of the two circles. A disc has a hole of radius 0.
 #[derive(Clone, Copy)]
 pub struct Ring {
     pub cx: u64,
     pub cy: u64,
     pub radius: u64,
     pub hole: u64,
-    pub level: u8,
-    pub m: u64,
+    ghost across: { cx ≤ offset_most },
+    ghost down: { cy ≤ offset_most },
+    ghost within: { hole ≤ radius },
+    ghost most: { radius ≤ radius_most },
 }
 
 // A ring with the heights of its two circles, those at 0 to the radius at least.
@@ -103,10 +106,12 @@ fn covered_width(hs: &[u32], radius: u64, b: u64) -> u64
 }
 
 impl Circles<'_> {
+    ghost use Rattle.rings.specs.inner.Circles.{cover, Measured};
+
     // The coverage over 512 at the distances a and b: a pixel past the hole needs no heights of the inner circle.
     pub fn covered(self, a: u64, b: u64) -> u64
         requires { (a ≤ radius_most) × (b < self.ring.radius) }
-        ensures { (result ≡ between (at self.entry.outer.now) (at self.entry.inner.now) a b) × (result ≤ 512) }
+        ensures { (result ≡ cover self.entry a b) × (result ≤ 512) }
     {
         let n = covered(self.outer, a, b);
         if a.max(b) < self.ring.hole {
@@ -119,7 +124,7 @@ impl Circles<'_> {
     // Where the row at distance b changes.
     pub fn measure(self, b: u64) -> Widths
         requires { b < self.ring.radius }
-        ensures { Measured (at self.entry.outer.now) (at self.entry.inner.now) self.entry.ring.radius b result }
+        ensures { Measured self.entry b result }
     {
         let whole = whole_width(self.outer, b);
         let end = covered_width(self.outer, self.ring.radius, b);
