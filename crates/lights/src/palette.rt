@@ -55,10 +55,8 @@ fn fill_sixteen(palette: &mut [u16; PALETTE], a: usize, g: u16)
     requires { a ≤ 1056 }
     ensures { FilledFrom a g palette.old palette.new }
 {
-    let mut i = 0;
-    while i < 16 {
+    for i in 0..16 {
         palette[FIRST_GUESS + a + i] = g;
-        i += 1;
     }
 }
 
@@ -97,12 +95,10 @@ fn fill_guesses(palette: &mut [u16; PALETTE], lights: &[u16])
 // Makes the palette of lights from zeros.
 pub fn fill_palette(palette: &mut [u16; PALETTE], lights: &[u16])
     requires { Fit lights.now × (palette.old ≡ replicate palette_size 0) }
-    ensures { Palette palette.new × (lights_in palette.new ≡ lights.now) × (length palette.new ≡ palette_size) }
+    ensures { Palette palette.new × (lights_in palette.new ≡ lights.now) }
 {
     fill_guesses(palette, lights);
-    let mut i = 0;
-    while i < 256 {
+    for i in 0..256 {
         palette[i] = lights[i];
-        i += 1;
     }
 }
