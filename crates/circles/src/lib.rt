@@ -6,7 +6,9 @@ ghost use Rattle.numbers.specs.inner.Offset.{origin, offset_most};
 ghost use Rattle.limits.specs.Limits.{shape_refusal, radius_most};
 ghost use Rattle.shapes.specs.declared.Shape.TheVariants.{Disc as asDisc, Ring as asRing};
 ghost use Rattle.chords.specs.inner.Circle.{Held};
+ghost use Rattle.coverage.specs.Coverage.{drawn_d};
 ghost use Rattle.coverage.specs.inner.OnPage.{shape_on};
+ghost use Rattle.page.specs.inner.Ink.{ink_of};
 ghost use Rattle.page.specs.inner.Paint.{Lawful, DrawnIn};
 ghost use Rattle.circles.specs.inner.Row.{boxed, covered_on};
 ghost use Rattle.circles.specs.inner.Arrays.{Zeros};
@@ -14,8 +16,7 @@ ghost use Rattle.rings.specs.inner.Placed.{Placed, RingDrawn};
 
 use chords::{HEIGHTS, heights};
 use numbers::ORIGIN;
-use page::ink::Ink;
-use page::{View, clamp_offset};
+use page::{Ink, Palette, View, clamp_offset};
 use rings::{Circles, Ring};
 use rows::{left_at, right_at};
 
@@ -128,31 +129,31 @@ fn draw_between<I: Ink>(page: &mut [u8], ink: I, view: View, ring: Ring) -> u64
 }
 
 // Draws a disc within the view's clip; hands back how many pixels it touched.
-pub fn draw_disc<I: Ink>(page: &mut [u8], ink: I, view: View, disc: shapes::Disc) -> u64
-    requires { Lawful view (length page.old) × (I.whole ink ≡ 512) × (shape_refusal (asDisc disc) ≡ 0) }
-    ensures { DrawnIn view (I.blends ink) (shape_on (asDisc disc)) page.old page.new result }
+pub fn draw_disc<P: Palette>(page: &mut [u8], palette: P, view: View, disc: shapes::Disc, level: u8) -> u64
+    requires { Lawful view (length page.old) × (shape_refusal (asDisc disc) ≡ 0) }
+    ensures { DrawnIn view (ink_of (P.lights palette) level (drawn_d (asDisc disc))) (shape_on (asDisc disc)) page.old page.new result }
 {
-    let c = shapes::point_of(disc.x, disc.y);
-    let ring = Ring {
+    let c = disc.centre();
+    let circle = Ring {
         cx: c.x,
         cy: c.y,
         radius: disc.radius as u64,
         hole: 0,
     };
-    draw_between(page, ink, view, ring)
+    draw_between(page, palette.chord_ink(level), view, circle)
 }
 
 // Draws a ring within the view's clip; hands back how many pixels it touched.
-pub fn draw_ring<I: Ink>(page: &mut [u8], ink: I, view: View, ring: shapes::Ring) -> u64
-    requires { Lawful view (length page.old) × (I.whole ink ≡ 512) × (shape_refusal (asRing ring) ≡ 0) }
-    ensures { DrawnIn view (I.blends ink) (shape_on (asRing ring)) page.old page.new result }
+pub fn draw_ring<P: Palette>(page: &mut [u8], palette: P, view: View, ring: shapes::Ring, level: u8) -> u64
+    requires { Lawful view (length page.old) × (shape_refusal (asRing ring) ≡ 0) }
+    ensures { DrawnIn view (ink_of (P.lights palette) level (drawn_d (asRing ring))) (shape_on (asRing ring)) page.old page.new result }
 {
-    let c = shapes::point_of(ring.x, ring.y);
+    let c = ring.centre();
     let between = Ring {
         cx: c.x,
         cy: c.y,
         radius: ring.radius as u64,
         hole: (ring.radius - ring.width) as u64,
     };
-    draw_between(page, ink, view, between)
+    draw_between(page, palette.chord_ink(level), view, between)
 }

@@ -14,8 +14,7 @@ use super::encloses;
 use chords::apart_of;
 use mirrored::draw_sides;
 use numbers::ORIGIN;
-use page::ink::Ink;
-use page::{View, clamp_offset};
+use page::{Ink, View, clamp_offset};
 use rings::{Circles, Ring, Widths};
 
 // The first column of the clip that is nearer than d to the centre, and the first past those.

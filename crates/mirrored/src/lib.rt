@@ -10,8 +10,7 @@ ghost use Rattle.rings.specs.inner.Placed.{Placed, RingDrawn};
 ghost use Rattle.mirrored.specs.inner.Mirrored.{Sides, Quarters, Enclosed, FilledSides, QuartersDrawn};
 
 use numbers::ORIGIN;
-use page::ink::Ink;
-use page::{View, fill_row};
+use page::{Ink, View, fill_row};
 use pairs::{quarters, sides};
 use rings::{Circles, Ring, Widths};
 
@@ -19,7 +18,7 @@ mod pairs; // pairs.rt: pixels on both sides, blended distance by distance
 
 // Gives what of row y lies from to end away from the centre's column the ink's level; hands back how many pixels it is.
 fn fill_sides<I: Ink>(page: &mut [u8], ink: I, view: View, ring: Ring, y: usize, from: u64, end: u64) -> u64
-    requires { Lawful view (length page.old) × (0 < I.whole ink) × Sides view ring y end × (from ≤ end) }
+    requires { Lawful view (length page.old) × Sides view ring y end × (from ≤ end) }
     ensures { FilledSides (I.blends ink) (I.whole ink) view ring y from end page.old page.new result }
 {
     let v = ink.level();

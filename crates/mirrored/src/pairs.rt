@@ -7,8 +7,7 @@ ghost use Rattle.chords.specs.inner.Circle.{apart};
 ghost use Rattle.mirrored.specs.inner.Mirrored.{row_sides, Sides, Quarters, SidesDrawn, QuartersDrawn};
 
 use numbers::ORIGIN;
-use page::View;
-use page::ink::Ink;
+use page::{Ink, View, put, touched};
 use rings::{Circles, Ring};
 
 // Blends the two pixels of row y at distance a from the centre's column, at coverage n.
@@ -19,8 +18,8 @@ fn pair<I: Ink>(page: &mut [u8], ink: I, view: View, ring: Ring, y: usize, a: u6
     let c = y * view.w + (ring.cx - ORIGIN) as usize;
     let right = c + a as usize;
     let left = c - a as usize - 1;
-    page[right] = ink.over(page[right], n);
-    page[left] = ink.over(page[left], n);
+    put(page, ink, right, n);
+    put(page, ink, left, n);
 }
 
 // Blends what of row y, at distance b, lies from to end away from the centre's column; hands back how many pixels it touched.

@@ -10,8 +10,8 @@ returns-then-i-eq0 g c n whole =
     let a = c.args in
     let d = g.I.Ink.whole a.ink in
     drawn_ext (row_sides a.ring n a.y a.from a.end)
-    (filled-middle a.ring n a.y a.from a.end d whole c.requires.3 (omega (arith, c.requires.2.left)) c.if-i-eq0.true)
-    (c.fill_row.ensures (g.I.Ink.blends a.ink) d c.requires.1 (rw c.level-v.ensures (g.met.I.Ink.full a.ink)))
+    (filled-middle a.ring n a.y a.from a.end d whole c.requires.2 (omega (arith, c.requires.1.left)) c.if-i-eq0.true)
+    (c.fill_row.ensures (g.I.Ink.blends a.ink) d (g.met.I.Ink.some a.ink).0 (rw c.level-v.ensures (g.met.I.Ink.covers a.ink)))
 
 pub overflow_add-result : goal.overflow_add-result
 overflow_add-result g c =
@@ -19,11 +19,11 @@ overflow_add-result g c =
     let a = c.args in
     let ink : ℕ → ℕ → ℕ = g.I.Ink.blends a.ink in
     let d = g.I.Ink.whole a.ink in
-    let leaves = g.met.I.Ink.full a.ink in
+    let leaves = g.met.I.Ink.covers a.ink in
     omega (
       arith,
-      drawn-count law (c.fill_row-left.ensures ink d c.requires.1 (rw c.level-v.ensures leaves)),
-      drawn-count law (c.fill_row-right.ensures ink d c.requires.1 (rw c.level-v.ensures leaves)),
+      drawn-count law (c.fill_row-left.ensures ink d (g.met.I.Ink.some a.ink).0 (rw c.level-v.ensures leaves)),
+      drawn-count law (c.fill_row-right.ensures ink d (g.met.I.Ink.some a.ink).0 (rw c.level-v.ensures leaves)),
     )
 
 pub returns : goal.returns
@@ -31,8 +31,8 @@ returns g c n whole =
     let a = c.args in
     let ink : ℕ → ℕ → ℕ = g.I.Ink.blends a.ink in
     let d = g.I.Ink.whole a.ink in
-    let leaves = g.met.I.Ink.full a.ink in
+    let leaves = g.met.I.Ink.covers a.ink in
     drawn_join (row_sides a.ring n a.y a.from a.end)
-    (filled_sides a.ring n a.y a.from a.end d whole c.requires.3 (omega (arith, c.requires.2.left)))
-    (c.fill_row-left.ensures ink d c.requires.1 (rw c.level-v.ensures leaves))
-    (c.fill_row-right.ensures ink d c.requires.1 (rw c.level-v.ensures leaves))
+    (filled_sides a.ring n a.y a.from a.end d whole c.requires.2 (omega (arith, c.requires.1.left)))
+    (c.fill_row-left.ensures ink d (g.met.I.Ink.some a.ink).0 (rw c.level-v.ensures leaves))
+    (c.fill_row-right.ensures ink d (g.met.I.Ink.some a.ink).0 (rw c.level-v.ensures leaves))
