@@ -63,7 +63,9 @@ fn draw_held<I: Ink>(page: &mut [u8], ink: I, view: View, circles: Circles) -> u
     ensures { RingDrawn (I.blends ink) view circles.entry view.x0 view.y0 view.x1 view.y1 page.old page.new result }
 {
     let ring = circles.ring;
-    if encloses(view.x0, view.x1, ring.cx, ring.radius) && encloses(view.y0, view.y1, ring.cy, ring.radius) {
+    if encloses(view.x0, view.x1, ring.cx, ring.radius)
+        && encloses(view.y0, view.y1, ring.cy, ring.radius)
+    {
         return mirrored::draw_enclosed(page, ink, view, circles);
     }
     rows::draw_rows(page, ink, view, circles)
@@ -100,7 +102,7 @@ fn draw_by_heights<I: Ink>(
 // Draws a ring by heights in two arrays of N. Each size has a function of its own, so that large arrays do not grow the stack frame of small ones.
 #[inline(never)]
 fn draw_sized<I: Ink, const N: usize>(page: &mut [u8], ink: I, view: View, ring: Ring) -> u64
-    requires { Placed view (length page.old) ring × (I.whole ink ≡ 512) × (ring.radius + 2 ≤ N) }
+    requires { Placed view (length page.old) ring × (I.whole ink ≡ 512) × (ring.radius + 2 ≤ N) × (N ≤ radius_most + 2) }
     ensures { DrawnIn view (I.blends ink) (covered_on ring) page.old page.new result }
 {
     let mut outer = [0u32; N];
@@ -108,7 +110,23 @@ fn draw_sized<I: Ink, const N: usize>(page: &mut [u8], ink: I, view: View, ring:
     draw_by_heights(page, ink, view, ring, &mut outer, &mut inner)
 }
 
-// Draws what lies between the circles of a ring.
+// The same in the smallest arrays that have room.
+fn draw_boxed<I: Ink>(page: &mut [u8], ink: I, view: View, ring: Ring) -> u64
+    requires { Placed view (length page.old) ring × (I.whole ink ≡ 512) }
+    ensures { DrawnIn view (I.blends ink) (covered_on ring) page.old page.new result }
+{
+    if ring.radius <= SMALL_MOST {
+        draw_sized::<I, SMALL_HEIGHTS>(page, ink, view, ring)
+    } else if ring.radius <= MIDDLE_MOST {
+        draw_sized::<I, MIDDLE_HEIGHTS>(page, ink, view, ring)
+    } else if ring.radius <= LARGE_MOST {
+        draw_sized::<I, LARGE_HEIGHTS>(page, ink, view, ring)
+    } else {
+        draw_sized::<I, HEIGHTS>(page, ink, view, ring)
+    }
+}
+
+// Draws what lies between the circles of a ring within the view's clip.
 fn draw_between<I: Ink>(page: &mut [u8], ink: I, view: View, ring: Ring) -> u64
     requires { Lawful view (length page.old) × (I.whole ink ≡ 512) }
     ensures { DrawnIn view (I.blends ink) (covered_on ring) page.old page.new result }
@@ -117,23 +135,21 @@ fn draw_between<I: Ink>(page: &mut [u8], ink: I, view: View, ring: Ring) -> u64
     if part.x1 <= part.x0 || part.y1 <= part.y0 {
         return 0;
     }
-    if ring.radius <= SMALL_MOST {
-        draw_sized::<I, SMALL_HEIGHTS>(page, ink, part, ring)
-    } else if ring.radius <= MIDDLE_MOST {
-        draw_sized::<I, MIDDLE_HEIGHTS>(page, ink, part, ring)
-    } else if ring.radius <= LARGE_MOST {
-        draw_sized::<I, LARGE_HEIGHTS>(page, ink, part, ring)
-    } else {
-        draw_sized::<I, HEIGHTS>(page, ink, part, ring)
-    }
+    draw_boxed(page, ink, part, ring)
 }
 
 // Draws a disc within the view's clip; hands back how many pixels it touched.
-pub fn draw_disc<P: Palette>(page: &mut [u8], palette: P, view: View, disc: shapes::Disc, level: u8) -> u64
+pub fn draw_disc<P: Palette>(
+    page: &mut [u8],
+    palette: P,
+    view: View,
+    disc: shapes::Disc,
+    level: u8,
+) -> u64
     requires { Lawful view (length page.old) × (shape_refusal (asDisc disc) ≡ 0) }
     ensures { DrawnIn view (ink_of (P.lights palette) level (drawn_d (asDisc disc))) (shape_on (asDisc disc)) page.old page.new result }
 {
-    let c = disc.centre();
+    let c = shapes::point_of(disc.x, disc.y);
     let circle = Ring {
         cx: c.x,
         cy: c.y,
@@ -144,11 +160,17 @@ pub fn draw_disc<P: Palette>(page: &mut [u8], palette: P, view: View, disc: shap
 }
 
 // Draws a ring within the view's clip; hands back how many pixels it touched.
-pub fn draw_ring<P: Palette>(page: &mut [u8], palette: P, view: View, ring: shapes::Ring, level: u8) -> u64
+pub fn draw_ring<P: Palette>(
+    page: &mut [u8],
+    palette: P,
+    view: View,
+    ring: shapes::Ring,
+    level: u8,
+) -> u64
     requires { Lawful view (length page.old) × (shape_refusal (asRing ring) ≡ 0) }
     ensures { DrawnIn view (ink_of (P.lights palette) level (drawn_d (asRing ring))) (shape_on (asRing ring)) page.old page.new result }
 {
-    let c = ring.centre();
+    let c = shapes::point_of(ring.x, ring.y);
     let between = Ring {
         cx: c.x,
         cy: c.y,

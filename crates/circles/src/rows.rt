@@ -70,7 +70,15 @@ fn draw_edge<I: Ink>(
 }
 
 // Draws columns p to q of row y. An edge that the clip leaves out, as most of a large ring are, costs a test.
-fn draw_left<I: Ink>(page: &mut [u8], ink: I, view: View, circles: Circles, y: usize, p: usize, q: usize) -> u64
+fn draw_left<I: Ink>(
+    page: &mut [u8],
+    ink: I,
+    view: View,
+    circles: Circles,
+    y: usize,
+    p: usize,
+    q: usize,
+) -> u64
     requires ready { Placed view (length page.old) circles.ring × (I.whole ink ≡ 512) }
     requires y0_le_y { (view.y0 ≤ y) × (y < view.y1) × (view.x0 ≤ p) × (p ≤ q) × (q ≤ view.x1) }
     ensures { RingDrawn (I.blends ink) view circles.entry p y q (y + 1) page.old page.new result }
@@ -124,7 +132,14 @@ fn draw_band<I: Ink>(
 }
 
 // Draws the columns of the clip in row y: one band, or a band on each side of the hole where the row meets the inner circle.
-fn draw_bands<I: Ink>(page: &mut [u8], ink: I, view: View, circles: Circles, row: Widths, y: usize) -> u64
+fn draw_bands<I: Ink>(
+    page: &mut [u8],
+    ink: I,
+    view: View,
+    circles: Circles,
+    row: Widths,
+    y: usize,
+) -> u64
     requires ready { Placed view (length page.old) circles.ring × (I.whole ink ≡ 512) × (view.y0 ≤ y) × (y < view.y1) }
     requires measured { Measured circles (apart circles.ring.cy (y + origin)) row }
     ensures { RingDrawn (I.blends ink) view circles.entry view.x0 y view.x1 (y + 1) page.old page.new result }
