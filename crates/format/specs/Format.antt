@@ -63,36 +63,36 @@ triangle_at s =
 
 -- ---- the kinds
 
--- a kind: its number, how many bytes a record has, the kind byte with them, and the record at the front of some bytes
-pub record Kind : Type 0 where
+-- a row for each kind: its number, how many bytes a record has, the kind byte with them, and the record at the front of some bytes
+pub record Row : Type 0 where
   pub number : ℕ
   pub size : ℕ
   pub found : List ℕ → Record
 
-abbrev kind : ℕ → ℕ → (List ℕ → Record) → Kind
-kind k n r = record { number = k; size = n; found = r }
+abbrev row : ℕ → ℕ → (List ℕ → Record) → Row
+row k n r = record { number = k; size = n; found = r }
 
-abbrev pub kinds : List Kind
+abbrev pub kinds : List Row
 kinds =
-    kind 0 1 (λ s. end)
-    ∷ kind 1 9 (λ s. setting (clip (clip_at s)))
-    ∷ kind 2 2 (λ s. setting (level (get_or s 1 0)))
-    ∷ kind 3 9 (λ s. shape (line (line_at true s)))
-    ∷ kind 4 9 (λ s. shape (line (line_at false s)))
-    ∷ kind 5 6 (λ s. shape (disc (disc_at s)))
-    ∷ kind 6 7 (λ s. shape (ring (ring_at s)))
-    ∷ kind 7 2 (λ s. setting (player (get_or s 1 0)))
-    ∷ kind 8 7 (λ s. shape (disc (big_disc_at s)))
-    ∷ kind 9 9 (λ s. shape (ring (big_ring_at s)))
-    ∷ kind 10 13 (λ s. shape (triangle (triangle_at s)))
+    row 0 1 (λ s. end)
+    ∷ row 1 9 (λ s. setting (clip (clip_at s)))
+    ∷ row 2 2 (λ s. setting (level (get_or s 1 0)))
+    ∷ row 3 9 (λ s. shape (line (line_at true s)))
+    ∷ row 4 9 (λ s. shape (line (line_at false s)))
+    ∷ row 5 6 (λ s. shape (disc (disc_at s)))
+    ∷ row 6 7 (λ s. shape (ring (ring_at s)))
+    ∷ row 7 2 (λ s. setting (player (get_or s 1 0)))
+    ∷ row 8 7 (λ s. shape (disc (big_disc_at s)))
+    ∷ row 9 9 (λ s. shape (ring (big_ring_at s)))
+    ∷ row 10 13 (λ s. shape (triangle (triangle_at s)))
     ∷ []
 
 -- the size and the record by the row of kind k; 0 and an end record where there is none
-abbrev pub size_in : List Kind → ℕ → ℕ
+abbrev pub size_in : List Row → ℕ → ℕ
 size_in [] k = 0
 size_in (r ∷ rs) k = cond (eqb k r.number) r.size (size_in rs k)
 
-abbrev pub found_in : List Kind → ℕ → List ℕ → Record
+abbrev pub found_in : List Row → ℕ → List ℕ → Record
 found_in [] k s = end
 found_in (r ∷ rs) k s = cond (eqb k r.number) (r.found s) (found_in rs k s)
 
