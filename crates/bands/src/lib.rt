@@ -124,7 +124,7 @@ pub fn frame_of(line: shapes::Line) -> Frame
     requires { shape_refusal (asShape line) ≡ 0 }
     ensures { Framed line result }
 {
-    let e = shapes::ends_of(line);
+    let e = shapes::Ends::from(line);
     let steep = e.x0.abs_diff(e.x1) < e.y0.abs_diff(e.y1);
     rising_frame(steep, ordered(exchanged(steep, e)))
 }

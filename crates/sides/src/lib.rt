@@ -119,5 +119,5 @@ pub fn triangle_cover(triangle: Triangle, x: i16, y: i16) -> Ratio
     requires { (shape_refusal (asTriangle triangle) ≡ 0) × (in_range x ≡ true) × (in_range y ≡ true) }
     ensures { result ≡ cover_of triangle x y }
 {
-    cover_at(shapes::corners_of(triangle), shapes::point_of(x, y))
+    cover_at(shapes::Corners::from(triangle), shapes::Point::new(x, y))
 }
