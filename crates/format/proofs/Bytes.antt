@@ -44,7 +44,7 @@ record_size_lem (shape (ring g)) = of_ring g.big
 record_size_lem (shape (triangle t)) = refl
 
 -- kinds above 10 are unknown
-unknown_kind_lem : (k : ℕ) → 10 < k → kind_size k ≡ 0
+pub unknown_kind_lem : (k : ℕ) → 10 < k → kind_size k ≡ 0
 unfolding kind_size
 unknown_kind_lem k h =
     let other : (j : ℕ) → j ≤ 10 → eqb k j ≡ false = λ j i. ne_eqb k j (λ e. omega arith) in
