@@ -70,12 +70,12 @@ unfolding kind_of decoded
 kind-found k s = each-kind (λ j. kind_of (decoded j s) ≡ j) (((((((((((tt, refl), refl), refl), refl), refl), refl), refl), refl), refl), refl), refl) k
 
 -- none is longer than the array
-pub size-most : (k : ℕ) → kind_size k ≤ record_most
+pub size_most : (k : ℕ) → kind_size k ≤ record_most
 unfolding kind_size
-size-most k = ⊎_elim (each-kind (λ j. kind_size j ≤ record_most) rows k) (λ h. omega arith) (lt_or_le 0 (kind_size k))
+size_most k = ⊎_elim (each-kind (λ j. kind_size j ≤ record_most) rows k) (λ h. omega arith) (lt_or_le 0 (kind_size k))
   where
     rows : AllBelow 11 (λ j. kind_size j ≤ record_most)
     rows = (((((((((((tt, omega arith), omega arith), omega arith), omega arith), omega arith), omega arith), omega arith), omega arith), omega arith), omega arith), omega arith)
 
 pub record_most_lem : (r : Record) → length (record_bytes r) ≤ record_most
-record_most_lem r = omega (arith, record_size_lem r, size-most (kind_of r))
+record_most_lem r = omega (arith, record_size_lem r, size_most (kind_of r))

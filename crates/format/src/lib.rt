@@ -21,7 +21,7 @@ pub const LIST_MOST: usize = 65536;
 pub const RECORD_MOST: usize = 13;
 
 // What a header tells: the version of the list, W, H and the background.
-#[derive(Clone, Copy)]
+#[derive(Clone, Copy, PartialEq, Eq)]
 pub struct Header {
     pub version: u16,
     pub w: u16,
@@ -43,7 +43,7 @@ impl From<Header> for Basis {
 }
 
 // The kinds of records, in the order of their numbers.
-#[derive(Clone, Copy, Debug, PartialEq, Eq)]
+#[derive(Clone, Copy, Debug, PartialEq, Eq, PartialOrd, Ord)]
 pub enum Kind {
     End,
     Clip,
