@@ -100,18 +100,20 @@ fn triangle_at(list: &[u8]) -> Triangle
     }
 }
 
-// The record whose bytes stand at the front.
+// The record whose bytes stand at the front. Lines of both kinds are read in one arm: with two the check of a list takes longer.
 #[tactic(auto, using(format::proofs::Bytes::unknown_kind_lem), unfolding(format::specs::Format::kind_size, format::specs::Format::decoded))]
 pub fn decode(list: &[u8]) -> Record
     requires { Whole list.now }
     ensures { result ≡ record_at list.now }
 {
-    match Kind::try_from(list[0]).unwrap() {
+    let kind = Kind::try_from(list[0]).unwrap();
+    match kind {
         Kind::End => Record::End,
         Kind::Clip => Record::Setting(Setting::Clip(clip_at(list))),
         Kind::Level => Record::Setting(Setting::Level(list[1])),
-        Kind::ExactLine => Record::Shape(Shape::Line(line_at(true, list))),
-        Kind::ApproximateLine => Record::Shape(Shape::Line(line_at(false, list))),
+        Kind::ExactLine | Kind::ApproximateLine => {
+            Record::Shape(Shape::Line(line_at(kind == Kind::ExactLine, list)))
+        }
         Kind::Disc => Record::Shape(Shape::Disc(disc_at(false, list))),
         Kind::Ring => Record::Shape(Shape::Ring(ring_at(false, list))),
         Kind::Player => Record::Setting(Setting::Player(list[1])),
