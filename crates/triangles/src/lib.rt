@@ -125,7 +125,7 @@ pub fn draw_triangle<P: Palette>(
     requires { Lawful view (length page.old) × (shape_refusal (asTriangle triangle) ≡ 0) }
     ensures { DrawnIn view (ink_of (P.lights palette) level (drawn_d (asTriangle triangle))) (shape_on (asTriangle triangle)) page.old page.new result }
 {
-    let (a, b, c) = sorted(shapes::corners_of(triangle));
+    let (a, b, c) = sorted(Corners::from(triangle));
     let from = clamp_offset(view.y0, view.y1, a.y);
     let middle = clamp_offset(view.y0, view.y1, b.y);
     let end = clamp_offset(view.y0, view.y1, c.y);

@@ -13,7 +13,7 @@ use Rattle.triangles.proofs.draw_triangle.Goals as goal
 
 pub sorted-requires : goal.sorted-requires
 sorted-requires g c =
-    rw c.corners_of.ensures (near-placed c.args.triangle (triangle_lawful c.args.triangle c.requires.1))
+    rw c.from.ensures (near-placed c.args.triangle (triangle_lawful c.args.triangle c.requires.1))
 
 pub returns-then-end-from : goal.returns-then-end-from
 returns-then-end-from g c =
@@ -21,7 +21,7 @@ returns-then-end-from g c =
     let p = c.sorted.result in
     let r : Corners = corners p.0 p.1 p.2 in
     let lights = g.P.Palette.lights a.palette in
-    whole-drawn lights a.level a.view a.triangle _ r c.requires.0 (triangle_lawful a.triangle c.requires.1) c.corners_of.ensures c.sorted.ensures
+    whole-drawn lights a.level a.view a.triangle _ r c.requires.0 (triangle_lawful a.triangle c.requires.1) c.from.ensures c.sorted.ensures
     c.clamp_offset-from.ensures c.clamp_offset-end.ensures
     (rows_none a.view (ink_of lights a.level (offset_d r)) (offset_n r) _ _ a.page.now c.if-end-from.true)
 
@@ -35,12 +35,12 @@ returns g c =
     let a = c.args in
     let p = c.sorted.result in
     let r : Corners = corners p.0 p.1 p.2 in
-    let s : Sorted c.corners_of.result r = c.sorted.ensures in
+    let s : Sorted c.from.result r = c.sorted.ensures in
     let lights = g.P.Palette.lights a.palette in
     let lower = rows-between a.view c.requires.0.y-order r.y0 r.y1 c.clamp_offset-from.ensures c.clamp_offset-middle.ensures s.first in
     let upper = rows-between a.view c.requires.0.y-order r.y1 r.y2 c.clamp_offset-middle.ensures c.clamp_offset-end.ensures s.last in
     let i = c.new-long.ensures.1 in
-    whole-drawn lights a.level a.view a.triangle _ r c.requires.0 (triangle_lawful a.triangle c.requires.1) c.corners_of.ensures s
+    whole-drawn lights a.level a.view a.triangle _ r c.requires.0 (triangle_lawful a.triangle c.requires.1) c.from.ensures s
     c.clamp_offset-from.ensures c.clamp_offset-end.ensures
     (rows_join a.view (ink_of lights a.level (offset_d r)) (offset_n r) _ _ _ lower.order upper.order
     (lower_half lights a.level a.view r c.new-long.result i s.first s.last lower c.draw_half-lower.ensures)
