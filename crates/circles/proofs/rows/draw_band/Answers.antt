@@ -13,4 +13,4 @@ overflow_add-result g c =
 pub returns : goal.returns
 returns g c =
     let a = c.args in
-    drawn_beside (cover_on a.circles) a.y a.p a.q a.s (omega arith) (omega arith) c.draw_left-left.ensures c.draw_right.ensures
+    drawn_beside (cover_on a.circles.now) a.y a.p a.q a.s (omega arith) (omega arith) c.draw_left-left.ensures c.draw_right.ensures

@@ -15,5 +15,5 @@ returns g c =
     let lent : length (take (last - first) (drop first a.page.now)) ≡ a.end - a.from = mid_len first last a.page.now (omega (arith, inside)) ∙ omega arith in
     let b = c.apart_of-b.ensures in
     let e = c.blend_edge.ensures in
-    drawn_stretch a.view.w a.view.h (g.I.Ink.blends a.ink) a.from a.end a.y (cover_on a.circles) a.page.now _ _
+    drawn_stretch a.view.w a.view.h (g.I.Ink.blends a.ink) a.from a.end a.y (cover_on a.circles.now) a.page.now _ _
     (omega arith) (omega arith) (omega arith) (omega arith) (rw b at e.stretch_after) (rw (b, lent) at e.value)

@@ -8,10 +8,10 @@ use Rattle.circles.proofs.rows.draw_right.Goals.{After-fill_row-whole}
 -- the columns that are whole
 filled : (g : _) (c : After-fill_row-whole g)
     → let a = c.args in
-    RingDrawn (g.I.Ink.blends a.ink) a.view a.circles a.q a.y a.r (a.y + 1) a.page.now c.fill_row-whole.new.page c.fill_row-whole.result
+    RingDrawn (g.I.Ink.blends a.ink) a.view a.circles.now a.q a.y a.r (a.y + 1) a.page.now c.fill_row-whole.new.page c.fill_row-whole.result
 filled g c =
     let a = c.args in
-    drawn_full (cover_on a.circles) (g.I.Ink.whole a.ink) a.y a.q a.r (rw c.requires.ready.1 c.requires.band.whole)
+    drawn_full (cover_on a.circles.now) (g.I.Ink.whole a.ink) a.y a.q a.r (rw c.requires.ready.1 c.requires.band.whole)
     (c.fill_row-whole.ensures (g.I.Ink.blends a.ink) (g.I.Ink.whole a.ink) (g.met.I.Ink.some a.ink).0
     (rw c.level.ensures (g.met.I.Ink.covers a.ink)))
 
@@ -19,7 +19,7 @@ pub returns-then-s-r : goal.returns-then-s-r
 returns-then-s-r g c =
     let a = c.args in
     let e : a.r ≡ a.s = omega arith in
-    subst (λ (s : ℕ). RingDrawn (g.I.Ink.blends a.ink) a.view a.circles
+    subst (λ (s : ℕ). RingDrawn (g.I.Ink.blends a.ink) a.view a.circles.now
     a.q a.y s (a.y + 1) a.page.now c.fill_row-whole.new.page c.fill_row-whole.result) e (filled g (goal.at.returns-then-s-r g c).After-fill_row-whole)
 
 -- neither touches more pixels than a page has
@@ -31,5 +31,5 @@ overflow_add-result g c =
 pub returns : goal.returns
 returns g c =
     let a = c.args in
-    drawn_beside (cover_on a.circles) a.y a.q a.r a.s (omega arith) (omega arith)
+    drawn_beside (cover_on a.circles.now) a.y a.q a.r a.s (omega arith) (omega arith)
     (filled g (goal.at.returns g c).After-fill_row-whole) c.draw_edge.ensures

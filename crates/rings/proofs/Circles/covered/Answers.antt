@@ -8,7 +8,7 @@ use Rattle.rings.proofs.Circles.covered.Goals as goal
 
 pub overflow_sub-result : goal.overflow_sub-result
 overflow_sub-result c =
-    omega (arith, chords_rise (at c.args.self.inner.now) (at c.args.self.outer.now) c.args.a c.args.b c.args.self.nested.within)
+    omega (arith, chords_rise (at c.args.self.now.inner.now) (at c.args.self.now.outer.now) c.args.a c.args.b c.args.self.now.nested.within)
 
 pub returns-then-max-self : goal.returns-then-max-self
 unfolding between
@@ -17,5 +17,5 @@ returns-then-max-self c = (ap₂ ◌-◌ c.covered-n.ensures.0 c.covered.ensures
 pub returns-else-max-self : goal.returns-else-max-self
 unfolding between
 returns-else-max-self c =
-    let none = chords_far c.args.self.nested.inner c.args.a c.args.b (omega (arith, c.max.ensures)) in
+    let none = chords_far c.args.self.now.nested.inner c.args.a c.args.b (omega (arith, c.max.ensures)) in
     (omega (arith, c.covered-n.ensures.0, none), omega arith)
