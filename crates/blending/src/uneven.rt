@@ -8,14 +8,13 @@ ghost use Rattle.lights.specs.inner.Palette.{middle, lights_in, Palette};
 ghost use Rattle.blending.specs.inner.Search.{Between, AtMost, NextTwo, NearGuess};
 ghost use Rattle.blending.specs.inner.Scale.{Scaled};
 
-use lights::palette::{FIRST_GUESS, GUESS_MOST, PALETTE, STRETCH, middle_of, reach, wide};
+use lights::palette::{FIRST_GUESS, GUESS_MOST, PALETTE, STRETCH, middle_of, reach};
 
-// 1 where y is at most x, else 0: no branch, as lights cannot make either likely.
+// 1 where y is at most x, else 0: a number, as a branch that lights cannot make likely either way would cost more.
 fn at_most(y: u64, x: u64) -> usize
-    requires { (y < 2 ^ 63) × (x < 2 ^ 63) }
     ensures { AtMost y x result × (result ≤ 1) }
 {
-    ((x + 9223372036854775808 - y) / 9223372036854775808) as usize
+    usize::from(y <= x)
 }
 
 // Middle k times d.
@@ -105,8 +104,8 @@ fn doubled(palette: &[u16], u: u8, v: u8, n: u64, d: u64) -> u64
     requires { (256 ≤ length palette.now) × Coverage n d }
     ensures { (result ≡ 2 * blended_light (light_of palette.now) u v n d) × (result ≤ 131070 * d) }
 {
-    let old = wide(palette[u as usize]);
-    let new = wide(palette[v as usize]);
+    let old = u64::from(palette[usize::from(u)]);
+    let new = u64::from(palette[usize::from(v)]);
     2 * (old * (d - n) + new * n)
 }
 

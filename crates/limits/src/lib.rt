@@ -206,12 +206,9 @@ pub fn check_record(basis: Basis, rec: Record) -> Result<(), Refusal>
     ensures { told result ≡ record_refusal basis rec }
 {
     match rec {
-        Record::End => Ok(()),
-        Record::Setting(setting) => match setting {
-            Setting::Clip(clip) => check_clip(basis.w, basis.h, clip),
-            Setting::Level(_) => Ok(()),
-            Setting::Player(player) => check_player(player),
-        },
+        Record::Setting(Setting::Clip(clip)) => check_clip(basis.w, basis.h, clip),
+        Record::Setting(Setting::Player(player)) => check_player(player),
         Record::Shape(shape) => check_shape(shape, radius_room(shape)),
+        Record::Setting(Setting::Level(_)) | Record::End => Ok(()),
     }
 }
