@@ -150,7 +150,7 @@ pub fn draw_disc<P: Palette>(
     requires { Lawful view (length page.old) × (shape_refusal (asDisc disc) ≡ 0) }
     ensures { DrawnIn view (ink_of (P.lights palette) level (drawn_d (asDisc disc))) (shape_on (asDisc disc)) page.old page.new result }
 {
-    let c = shapes::point_of(disc.x, disc.y);
+    let c = disc.centre();
     let circle = Ring {
         cx: c.x,
         cy: c.y,
@@ -171,7 +171,7 @@ pub fn draw_ring<P: Palette>(
     requires { Lawful view (length page.old) × (shape_refusal (asRing ring) ≡ 0) }
     ensures { DrawnIn view (ink_of (P.lights palette) level (drawn_d (asRing ring))) (shape_on (asRing ring)) page.old page.new result }
 {
-    let c = shapes::point_of(ring.x, ring.y);
+    let c = ring.centre();
     let between = Ring {
         cx: c.x,
         cy: c.y,

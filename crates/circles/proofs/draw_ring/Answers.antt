@@ -1,18 +1,13 @@
 -- A ring is what lies between its two circles.
-use Rattle.std.proofs.Common.{◌≡◌, rules, arith}
+use Rattle.std.proofs.Common.{arith}
 use Rattle.limits.specs.Limits.{radius_most}
-use Rattle.limits.proofs.Limits.{LawfulRing, ring_lawful, point_kept}
-use Rattle.shapes.specs.inner.Offsets.{point_of}
+use Rattle.limits.proofs.Limits.{LawfulRing, ring_lawful}
 use Rattle.shapes.specs.declared.Shape.TheVariants.{Ring as asShape}
 use Rattle.coverage.specs.Coverage.{rules_of}
 use Rattle.coverage.specs.inner.OnPage.{shape_on}
 use Rattle.page.proofs.Drawn.{drawn-same}
 use Rattle.circles.proofs.Shape.{ring_on}
 use Rattle.circles.proofs.draw_ring.Goals as goal
-use Rattle.circles.proofs.draw_ring.Goals.{After-point_of-c}
-
-centre : (g : _) (c : After-point_of-c g) → c.point_of-c.result ≡ point_of c.args.ring.x c.args.ring.y
-centre g c = point_kept (search rules) (search rules) c.point_of-c.ensures
 
 pub overflow_sub-between : goal.overflow_sub-between
 overflow_sub-between g c = (ring_lawful c.args.ring c.requires.1).most
@@ -20,10 +15,9 @@ overflow_sub-between g c = (ring_lawful c.args.ring c.requires.1).most
 pub invariant_of-between : goal.invariant_of-between
 invariant_of-between g c =
     let k : LawfulRing radius_most c.args.ring = ring_lawful c.args.ring c.requires.1 in
-    let e = centre g (goal.at.invariant_of-between g c).After-point_of-c in
     record {
-      across = rw e (omega (arith, k.circle.x_in.less));
-      down = rw e (omega (arith, k.circle.y_in.less));
+      across = rw c.centre-c.ensures (omega (arith, k.circle.x_in.less));
+      down = rw c.centre-c.ensures (omega (arith, k.circle.y_in.less));
       within = omega arith;
       most = k.circle.most;
     }
@@ -31,6 +25,5 @@ invariant_of-between g c =
 pub returns : goal.returns
 unfolding rules_of
 returns g c =
-    let e = centre g (goal.at.returns g c).After-point_of-c in
-    drawn-same (shape_on (asShape c.args.ring)) c.requires.0 (ring_on c.args.ring c.requires.1 e)
+    drawn-same (shape_on (asShape c.args.ring)) c.requires.0 (ring_on c.args.ring c.requires.1 c.centre-c.ensures)
     (rw c.chord_ink.ensures.blends at c.draw_between.ensures)
