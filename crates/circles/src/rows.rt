@@ -14,7 +14,7 @@ use super::encloses;
 use chords::apart_of;
 use mirrored::draw_sides;
 use numbers::ORIGIN;
-use page::{Ink, View, clamp_offset};
+use page::{Ink, View, clamp_offset, fill_row};
 use rings::{Circles, Ring, Widths};
 
 // The first column of the clip that is nearer than d to the centre, and the first past those.
@@ -48,7 +48,9 @@ fn blend_edge<I: Ink>(stretch: &mut [u8], ink: I, circles: &Circles, x: usize, b
     touched
 }
 
-// Draws columns from to end of row y pixel by pixel.
+// Draws columns from to end of row y pixel by pixel. An edge that the clip leaves out, as most of a large ring are, costs a test. What a row is
+// drawn by stands in line: a call would write its structs to memory in each row.
+#[inline(always)]
 fn draw_edge<I: Ink>(
     page: &mut [u8],
     ink: I,
@@ -62,56 +64,14 @@ fn draw_edge<I: Ink>(
     requires y0_le_y { (view.y0 ≤ y) × (y < view.y1) × (view.x0 ≤ from) × (from ≤ end) × (end ≤ view.x1) }
     ensures { RingDrawn (I.blends ink) view circles.now from y end (y + 1) page.old page.new result }
 {
+    if end <= from {
+        return 0;
+    }
     let w = view.w;
     let a = y * w + from;
     let e = y * w + end;
     let b = apart_of(circles.ring.cy, y as u64 + ORIGIN);
     blend_edge(&mut page[a..e], ink, circles, from, b)
-}
-
-// Draws columns p to q of row y. An edge that the clip leaves out, as most of a large ring are, costs a test. What a row is drawn by stands in
-// line: a call would write its structs to memory in each row.
-#[inline(always)]
-fn draw_left<I: Ink>(
-    page: &mut [u8],
-    ink: I,
-    view: View,
-    circles: &Circles,
-    y: usize,
-    p: usize,
-    q: usize,
-) -> u64
-    requires ready { Placed view (length page.old) circles.now.ring × (I.whole ink ≡ 512) }
-    requires y0_le_y { (view.y0 ≤ y) × (y < view.y1) × (view.x0 ≤ p) × (p ≤ q) × (q ≤ view.x1) }
-    ensures { RingDrawn (I.blends ink) view circles.now p y q (y + 1) page.old page.new result }
-{
-    if q <= p {
-        return 0;
-    }
-    draw_edge(page, ink, view, circles, y, p, q)
-}
-
-// Draws columns q to s of row y, of which q to r are whole.
-#[inline(always)]
-fn draw_right<I: Ink>(
-    page: &mut [u8],
-    ink: I,
-    view: View,
-    circles: &Circles,
-    y: usize,
-    q: usize,
-    r: usize,
-    s: usize,
-) -> u64
-    requires ready { Placed view (length page.old) circles.now.ring × (I.whole ink ≡ 512) }
-    requires band { Band circles.now view y q q r s }
-    ensures { RingDrawn (I.blends ink) view circles.now q y s (y + 1) page.old page.new result }
-{
-    let whole = page::fill_row(page, view, ink.level(), y, q, r);
-    if s <= r {
-        return whole;
-    }
-    whole + draw_edge(page, ink, view, circles, y, r, s)
 }
 
 // Draws columns p to s of row y, of which q to r are whole.
@@ -131,8 +91,10 @@ fn draw_band<I: Ink>(
     requires band { Band circles.now view y p q r s }
     ensures { RingDrawn (I.blends ink) view circles.now p y s (y + 1) page.old page.new result }
 {
-    let left = draw_left(page, ink, view, circles, y, p, q);
-    left + draw_right(page, ink, view, circles, y, q, r, s)
+    let left = draw_edge(page, ink, view, circles, y, p, q);
+    let whole = fill_row(page, view, ink.level(), y, q, r);
+    let right = draw_edge(page, ink, view, circles, y, r, s);
+    left + whole + right
 }
 
 // Draws the columns of the clip in row y: one band, or a band on each side of the hole where the row meets the inner circle.

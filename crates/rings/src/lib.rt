@@ -51,6 +51,7 @@ fn height(hs: &[u32], k: u64) -> u64
 }
 
 // The coverage over 512 by a disc, at the distances a and b.
+#[tactic(auto, unfolding(chords::specs::Circle::chords, chords::specs::Circle::chord))]
 fn covered(hs: &[u32], a: u64, b: u64) -> u64
     requires { (a ≤ radius_most) × (b ≤ radius_most) × (b + 1 < length hs.now) }
     ensures { (result ≡ chords (at hs.now) a b) × (result ≤ 512) }
@@ -109,6 +110,7 @@ impl Circles<'_> {
     ghost use Rattle.rings.specs.inner.Circles.{cover, Measured};
 
     // The coverage over 512 at the distances a and b: a pixel past the hole needs no heights of the inner circle.
+    #[tactic(auto, using(chords::proofs::Chord::chords_rise, crate::proofs::Chords::chords_far), unfolding(crate::specs::inner::Heights::between))]
     pub fn covered(&self, a: u64, b: u64) -> u64
         requires { (a ≤ radius_most) × (b < self.now.ring.radius) }
         ensures { (result ≡ cover self.now a b) × (result ≤ 512) }
