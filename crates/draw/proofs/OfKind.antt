@@ -1,15 +1,10 @@
 -- A shape that is refused, or drawn by the function of its kind, leaves what the definition says.
 use mathlib.Core.Path.{◌≡◌, ◌∙◌}
 use mathlib.Core.List.{List}
-use Prim.Native.Nat.{ℕ, ◌<◌}
-use native.Mathlib.Omega.{arith}
-use borrow.Author.Tests.{ne_eqb}
+use Prim.Native.Nat.{ℕ}
 use lib.ListN.{length}
-use Rattle.std.specs.Prelude.{Ok, Err}
+use Rattle.std.specs.Prelude.{Ok}
 use Rattle.limits.specs.Limits.{shape_refusal}
-use Rattle.limits.specs.declared.refusal.Refusal.{Refusal}
-use Rattle.limits.specs.Refusal.{number_of}
-use Rattle.limits.proofs.Refusals.{number_above}
 use Rattle.shapes.specs.declared.Clip.{Clip}
 use Rattle.shapes.specs.declared.Shape.{Shape}
 use Rattle.coverage.specs.Coverage.{drawn_d}
@@ -24,13 +19,6 @@ use Rattle.draw.proofs.Refusals.{draw_lawful_lem}
 use Rattle.touches.proofs.Touches.{page-touched, count-touched}
 
 module _ (w h : ℕ) (lights : List ℕ) (c : Clip) (v : ℕ) (s : Shape) (l : List ℕ) where
-  pub refused-kept : (e : Refusal) → number_of e ≡ draw_refusal w h (length l) lights c s
-      → (Err (number_of e) ≡ shape_outcome w h (length l) lights c s) × (l ≡ shape_page w h lights c v s l)
-  refused-kept e found =
-      let k : 0 < number_of e = number_above e in
-      let z = ne_eqb (draw_refusal w h (length l) lights c s) 0 (λ z. omega arith) in
-      (rw (z, found), rw z)
-
   pub all-lawful : draw_refusal w h (length l) lights c s ≡ 0 → Fit lights × Lawful (view_of w h c) (length l) × (shape_refusal s ≡ 0)
   all-lawful k = draw_lawful_lem w h (length l) lights c s k
 

@@ -23,6 +23,7 @@ use page::{EvenLights, UnevenLights, View};
 use shapes::Clip;
 
 // Tries a shape on a page of size bytes, in lights at these steps; own is what trying the shape told. Hands back the steps.
+#[tactic(auto, using(std::proofs::lemmas::Bool::Decides::nat_tests), unfolding(crate::specs::Draw::draw_refusal))]
 fn check_draw(
     w: u16,
     h: u16,

@@ -1,78 +1,57 @@
--- The line is drawn only where nothing is refused; lights at even steps are a palette by themselves.
-use mathlib.Core.Path.{◌≡◌}
-use lib.ListN.{length}
-use Rattle.limits.specs.Limits.{shape_refusal}
-use Rattle.shapes.specs.declared.Shape.TheVariants.{Line as line}
-use Rattle.lights.specs.inner.Fit.{Fit}
-use Rattle.lights.proofs.LightsIn.{even_palette, lights-all}
-use Rattle.page.specs.inner.Paint.{Lawful}
-use Rattle.draw.specs.Draw.{draw_refusal}
+-- A shape is drawn only where nothing is refused, and then in fit lights.
+use Rattle.std.proofs.Common.{sym}
 use Rattle.draw.proofs.OfKind.{all-lawful, kind-drawn}
-use Rattle.draw.proofs.draw_line.Goals as goal
+use Rattle.draw.proofs.draw_shape.Goals as goal
 
-pub frame_of-requires : goal.frame_of-requires
-frame_of-requires c =
-    let found : let a = c.args in c.draw_refusal-refusal.result ≡ draw_refusal a.w a.h (length a.page.now) a.lights.now a.clip (line a.line) = let a = c.args in
-    c.draw_refusal-refusal.ensures a.lights.now (line a.line) c.kind_of-lights_kind.ensures c.line_refusal-own.ensures in
-    let lawful : let a = c.args in Fit a.lights.now × Lawful c.view_of-view.result (length a.page.now) × (shape_refusal (line a.line) ≡ 0) = let a = c.args in
-    let b = all-lawful a.w a.h a.lights.now a.clip a.level (line a.line) a.page.now found c.if-refusal-gt0.false in
-    (b.0, rw c.view_of-view.ensures b.1, b.2) in
-    lawful.2
+pub invariant_of-draw : goal.invariant_of-draw
+invariant_of-draw g c =
+    let a = c.args in
+    let s = g.F.Figure.shape a.figure in
+    let found = sym (rw c.in_ok-steps.was at c.check_draw.ensures.value a.lights.now s c.steps_of.ensures c.check.ensures) in
+    let lawful = all-lawful a.w a.h a.lights.now a.clip a.level s a.page.now found in
+    let known = rw c.in_ok-steps.was at c.check_draw.ensures.steps in
+    record { fit = lawful.0; even = c.steps_of.ensures.even_is (rw c.in-Even.is at known) }
 
-pub draw_line-requires : goal.draw_line-requires
-draw_line-requires c =
-    let found : let a = c.args in c.draw_refusal-refusal.result ≡ draw_refusal a.w a.h (length a.page.now) a.lights.now a.clip (line a.line) = let a = c.args in
-    c.draw_refusal-refusal.ensures a.lights.now (line a.line) c.kind_of-lights_kind.ensures c.line_refusal-own.ensures in
-    let lawful : let a = c.args in Fit a.lights.now × Lawful c.view_of-view.result (length a.page.now) × (shape_refusal (line a.line) ≡ 0) = let a = c.args in
-    let b = all-lawful a.w a.h a.lights.now a.clip a.level (line a.line) a.page.now found c.if-refusal-gt0.false in
-    (b.0, rw c.view_of-view.ensures b.1, b.2) in
-    let ready = lawful in
-    let even = c.kind_of-lights_kind.ensures.even_is c.if-lights_kind.true in
-    (even_palette _ ready.0 even, ready.1, c.frame_of.ensures)
+pub draw-requires : goal.draw-requires
+draw-requires g c =
+    let a = c.args in
+    let s = g.F.Figure.shape a.figure in
+    let found = sym (rw c.in_ok-steps.was at c.check_draw.ensures.value a.lights.now s c.steps_of.ensures c.check.ensures) in
+    let lawful = all-lawful a.w a.h a.lights.now a.clip a.level s a.page.now found in
+    (rw c.view_of-view.ensures lawful.1, lawful.2)
 
 pub draw_uneven-requires : goal.draw_uneven-requires
-draw_uneven-requires c =
-    let found : let a = c.args in c.draw_refusal-refusal.result ≡ draw_refusal a.w a.h (length a.page.now) a.lights.now a.clip (line a.line) = let a = c.args in
-    c.draw_refusal-refusal.ensures a.lights.now (line a.line) c.kind_of-lights_kind.ensures c.line_refusal-own.ensures in
-    let lawful : let a = c.args in Fit a.lights.now × Lawful c.view_of-view.result (length a.page.now) × (shape_refusal (line a.line) ≡ 0) = let a = c.args in
-    let b = all-lawful a.w a.h a.lights.now a.clip a.level (line a.line) a.page.now found c.if-refusal-gt0.false in
-    (b.0, rw c.view_of-view.ensures b.1, b.2) in
-    lawful
-
-pub returns-then-lights_kind-clause-value : goal.returns-then-lights_kind-clause-value
-returns-then-lights_kind-clause-value c =
-    let found : let a = c.args in c.draw_refusal-refusal.result ≡ draw_refusal a.w a.h (length a.page.now) a.lights.now a.clip (line a.line) = let a = c.args in
-    c.draw_refusal-refusal.ensures a.lights.now (line a.line) c.kind_of-lights_kind.ensures c.line_refusal-own.ensures in
-    let lawful : let a = c.args in Fit a.lights.now × Lawful c.view_of-view.result (length a.page.now) × (shape_refusal (line a.line) ≡ 0) = let a = c.args in
-    let b = all-lawful a.w a.h a.lights.now a.clip a.level (line a.line) a.page.now found c.if-refusal-gt0.false in
-    (b.0, rw c.view_of-view.ensures b.1, b.2) in
+draw_uneven-requires g c =
     let a = c.args in
-    (kind-drawn a.w a.h a.lights.now a.clip a.level (line a.line) a.page.now found c.if-refusal-gt0.false
-    c.view_of-view.ensures (rw (lights-all a.lights.now lawful.0.count) at c.draw_line.ensures)).0
+    let s = g.F.Figure.shape a.figure in
+    let found = sym (rw c.in_ok-steps.was at c.check_draw.ensures.value a.lights.now s c.steps_of.ensures c.check.ensures) in
+    let lawful = all-lawful a.w a.h a.lights.now a.clip a.level s a.page.now found in
+    (lawful.0, rw c.view_of-view.ensures lawful.1, lawful.2)
 
-pub returns-then-lights_kind-clause-page_after : goal.returns-then-lights_kind-clause-page_after
-returns-then-lights_kind-clause-page_after c =
-    let found : let a = c.args in c.draw_refusal-refusal.result ≡ draw_refusal a.w a.h (length a.page.now) a.lights.now a.clip (line a.line) = let a = c.args in
-    c.draw_refusal-refusal.ensures a.lights.now (line a.line) c.kind_of-lights_kind.ensures c.line_refusal-own.ensures in
-    let lawful : let a = c.args in Fit a.lights.now × Lawful c.view_of-view.result (length a.page.now) × (shape_refusal (line a.line) ≡ 0) = let a = c.args in
-    let b = all-lawful a.w a.h a.lights.now a.clip a.level (line a.line) a.page.now found c.if-refusal-gt0.false in
-    (b.0, rw c.view_of-view.ensures b.1, b.2) in
+pub returns-in-Even-clause-value : goal.returns-in-Even-clause-value
+returns-in-Even-clause-value g c =
     let a = c.args in
-    (kind-drawn a.w a.h a.lights.now a.clip a.level (line a.line) a.page.now found c.if-refusal-gt0.false
-    c.view_of-view.ensures (rw (lights-all a.lights.now lawful.0.count) at c.draw_line.ensures)).1
+    let s = g.F.Figure.shape a.figure in
+    let found = sym (rw c.in_ok-steps.was at c.check_draw.ensures.value a.lights.now s c.steps_of.ensures c.check.ensures) in
+    (kind-drawn a.w a.h a.lights.now a.clip a.level s a.page.now found c.view_of-view.ensures c.draw.ensures).0
 
-pub returns-clause-value : goal.returns-clause-value
-returns-clause-value c =
-    let found : let a = c.args in c.draw_refusal-refusal.result ≡ draw_refusal a.w a.h (length a.page.now) a.lights.now a.clip (line a.line) = let a = c.args in
-    c.draw_refusal-refusal.ensures a.lights.now (line a.line) c.kind_of-lights_kind.ensures c.line_refusal-own.ensures in
+pub returns-in-Even-clause-page_after : goal.returns-in-Even-clause-page_after
+returns-in-Even-clause-page_after g c =
     let a = c.args in
-    (kind-drawn a.w a.h a.lights.now a.clip a.level (line a.line) a.page.now found c.if-refusal-gt0.false
-    c.view_of-view.ensures c.draw_uneven.ensures).0
+    let s = g.F.Figure.shape a.figure in
+    let found = sym (rw c.in_ok-steps.was at c.check_draw.ensures.value a.lights.now s c.steps_of.ensures c.check.ensures) in
+    (kind-drawn a.w a.h a.lights.now a.clip a.level s a.page.now found c.view_of-view.ensures c.draw.ensures).1
 
-pub returns-clause-page_after : goal.returns-clause-page_after
-returns-clause-page_after c =
-    let found : let a = c.args in c.draw_refusal-refusal.result ≡ draw_refusal a.w a.h (length a.page.now) a.lights.now a.clip (line a.line) = let a = c.args in
-    c.draw_refusal-refusal.ensures a.lights.now (line a.line) c.kind_of-lights_kind.ensures c.line_refusal-own.ensures in
+pub returns-in-Uneven-clause-value : goal.returns-in-Uneven-clause-value
+returns-in-Uneven-clause-value g c =
     let a = c.args in
-    (kind-drawn a.w a.h a.lights.now a.clip a.level (line a.line) a.page.now found c.if-refusal-gt0.false
-    c.view_of-view.ensures c.draw_uneven.ensures).1
+    let s = g.F.Figure.shape a.figure in
+    let found = sym (rw c.in_ok-steps.was at c.check_draw.ensures.value a.lights.now s c.steps_of.ensures c.check.ensures) in
+    (kind-drawn a.w a.h a.lights.now a.clip a.level s a.page.now found c.view_of-view.ensures c.draw_uneven.ensures).0
+
+pub returns-in-Uneven-clause-page_after : goal.returns-in-Uneven-clause-page_after
+returns-in-Uneven-clause-page_after g c =
+    let a = c.args in
+    let s = g.F.Figure.shape a.figure in
+    let found = sym (rw c.in_ok-steps.was at c.check_draw.ensures.value a.lights.now s c.steps_of.ensures c.check.ensures) in
+    (kind-drawn a.w a.h a.lights.now a.clip a.level s a.page.now found c.view_of-view.ensures c.draw_uneven.ensures).1
