@@ -89,11 +89,11 @@ module _ {x y : ℤ} (p : InRange x) (q : InRange y) where
   offset_dist = diff_abs offset_diff
 
 -- ---- 16 bits: the definitions are the machine's own
-bits_machine : (z : ℤ) → bits_of z ≡ of_z w16 z
+pub bits_machine : (z : ℤ) → bits_of z ≡ of_z w16 z
 bits_machine (pos n) = refl
 bits_machine (negsuc n) = omega arith
 
-signed_machine : (b : ℕ) → signed_of b ≡ to_z w16 b
+pub signed_machine : (b : ℕ) → signed_of b ≡ to_z w16 b
 signed_machine b = go (ltb b 32768)
   where
     go : (t : Bool) → cond t (pos b) (negsuc (65535 - b)) ≡ cond t (pos b) (negsuc (65536 - suc b))

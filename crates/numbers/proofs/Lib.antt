@@ -3,6 +3,7 @@ pub mod Order
 pub mod Nearest
 pub mod Integer
 pub mod Coordinate
+pub mod Standard
 pub mod Fraction
 pub mod Sum
 pub mod Inverse

@@ -32,49 +32,41 @@ pub fn remainder(n: u64, m: u64) -> u64
 pub fn lesser(a: u64, b: u64) -> u64
     ensures { result ≡ min a b }
 {
-    if a <= b { a } else { b }
+    a.min(b)
 }
 
 pub fn greater(a: u64, b: u64) -> u64
     ensures { result ≡ max a b }
 {
-    if a <= b { b } else { a }
+    a.max(b)
 }
 
 // a less b, brought up to 0.
 pub fn less(a: u64, b: u64) -> u64
     ensures { result ≡ a - b }
 {
-    if b <= a { a - b } else { 0 }
+    a.saturating_sub(b)
 }
 
 // How far a and b are apart.
 pub fn distance(a: u64, b: u64) -> u64
     ensures { result ≡ dist a b }
 {
-    if a < b { b - a } else { a - b }
-}
-
-// How far b is above a.
-fn rise(a: i16, b: i16) -> u64
-    requires { T (le_z a b) }
-    ensures { Span a b result }
-{
-    (b as i64 - a as i64) as u64
+    a.abs_diff(b)
 }
 
 // How far two signed numbers are apart.
 pub fn span(a: i16, b: i16) -> u64
     ensures { Span a b result }
 {
-    if a <= b { rise(a, b) } else { rise(b, a) }
+    a.abs_diff(b) as u64
 }
 
 // Whether a coordinate is from -4,096 to 4,095.
 fn in_range(c: i16) -> bool
     ensures { result ≡ in_range c }
 {
-    -4096 <= c && c <= 4095
+    (-4096..=4095).contains(&c)
 }
 
 // The coordinate counted from -4,096, and one above the greatest offset for a number out of range: the geometry is unsigned from here on.
@@ -92,29 +84,21 @@ pub fn offset(c: i16) -> u64
 pub fn bits(c: i16) -> u16
     ensures { result ≡ bits_of c }
 {
-    if c < 0 {
-        65535 - (-1 - c) as u16
-    } else {
-        c as u16
-    }
+    c.cast_unsigned()
 }
 
 // The signed number of 16 bits.
 pub fn signed(b: u16) -> i16
     ensures { result ≡ signed_of b }
 {
-    if b < 32768 {
-        b as i16
-    } else {
-        -1 - (65535 - b) as i16
-    }
+    b.cast_signed()
 }
 
 // The 16-bit number of two bytes, the low one first.
 pub fn word(low: u8, high: u8) -> u16
     ensures { result ≡ word_of low high }
 {
-    low as u16 + 256 * (high as u16)
+    u16::from_le_bytes([low, high])
 }
 
 // The two bytes of a 16-bit number.
@@ -127,8 +111,6 @@ pub struct WordBytes {
 pub fn word_bytes(w: u16) -> WordBytes
     ensures { result.low ∷ result.high ∷ [] ≡ bytes_of w }
 {
-    WordBytes {
-        low: (w % 256) as u8,
-        high: (w / 256) as u8,
-    }
+    let [low, high] = w.to_le_bytes();
+    WordBytes { low, high }
 }
