@@ -1,33 +1,39 @@
 // Squeezes a list for storage: settings that change nothing go.
 #![tactic(auto)]
 
-mod kinds;
-mod put;
-mod size;
+mod kinds; // kinds.rt: what a walk asks of a kind
+mod put; // put.rt: a walk over a list that puts what is kept of it into a target
+mod target; // target.rt: what takes the bytes of a squeezed list
 
-ghost use Rattle.std.specs.Prelude.{◌≡◌, ◌+◌, ltb, length};
-ghost use Rattle.format.specs.Format.{header_size, header_at, basis_of};
+ghost use Rattle.std.specs.Prelude.{◌≡◌, ltb, length};
+ghost use Rattle.format.specs.Format.{header_at, basis_of};
 ghost use Rattle.lists.specs.List.{pageless_records};
 ghost use Rattle.lists.specs.inner.Walk.{list_drawings, Walkable};
 ghost use Rattle.squeezed.specs.Squeeze.{squeezed, fitted, filled, squeeze_answer, squeeze_output};
-ghost use Rattle.squeezed.specs.inner.Size.{size_of};
-ghost use Rattle.squeeze.specs.inner.Walk.{kept_of};
 ghost use Rattle.squeezed.specs.Claim.{KeepsBy};
 
+use crate::put::put_squeezed;
+use crate::target::{Length, Output};
 use format::Header;
 use lists::check::Checked;
-use shapes::Basis;
 use squeezed::Answer;
 
-// Whether n bytes are too few for what a list is squeezed to. That is never longer than the list, so that it is measured only for less.
-fn too_few(n: usize, list: &[u8], basis: Basis) -> bool
-    requires { Walkable list.now basis }
-    ensures { result ≡ ltb n (header_size + size_of (kept_of basis list.now)) }
+// How many bytes an accepted list is squeezed to.
+fn squeezed_length(list: &[u8], header: Header) -> usize
+    requires { Walkable list.now (basis_of header) }
+    ensures { result ≡ length (squeezed header (list_drawings (basis_of header) list.now)) }
 {
-    if list.len() <= n {
-        return false;
-    }
-    n < size::squeezed_size(list, basis)
+    let mut target = Length { bytes: 0 };
+    put_squeezed(&mut target, list, header);
+    target.bytes
+}
+
+// Whether n bytes are too few for what a list is squeezed to. That is never longer than the list, so that it is measured only for less.
+fn too_few(n: usize, list: &[u8], header: Header) -> bool
+    requires { Walkable list.now (basis_of header) }
+    ensures { result ≡ ltb n (length (squeezed header (list_drawings (basis_of header) list.now))) }
+{
+    n < list.len() && n < squeezed_length(list, header)
 }
 
 // Squeezes an accepted list.
@@ -36,15 +42,15 @@ fn squeeze_accepted(out: &mut [u8], list: &[u8], header: Header) -> Answer
     ensures value { result ≡ fitted (length out.old) (squeezed header (list_drawings (basis_of header) list.now)) }
     ensures out_after { out.new ≡ filled out.old (squeezed header (list_drawings (basis_of header) list.now)) }
 {
-    let basis = format::basis_of(header);
-    if too_few(out.len(), list, basis) {
+    if too_few(out.len(), list, header) {
         return Answer::Refused {
             refusal: 22,
             place: 0,
         };
     }
-    records::write::write_header(out, 0, header.version, header.w, header.h, header);
-    Answer::Squeezed(put::put_records(out, list, basis))
+    let mut output = Output { out, end: 0 };
+    put_squeezed(&mut output, list, header);
+    Answer::Squeezed(output.end)
 }
 
 // Squeezes a list into an output, or refuses it and leaves the output as it was.

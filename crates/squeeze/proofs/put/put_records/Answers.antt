@@ -1,133 +1,77 @@
 -- A setting is brought in force; a shape is put behind the settings that differ; the end record is put last.
-use mathlib.Core.Bool.{false}
-use mathlib.Core.Path.{◌≡◌, refl, sym, ◌∙◌, subst}
-use Prim.Native.Nat.{ℕ, ◌+◌, ◌≤◌, ◌<◌}
-use native.Mathlib.Omega.{arith}
-use lib.ListN.{length, get_or}
-use Rattle.format.specs.Format.{header_size, list_most, kind_size}
-use Rattle.settings.specs.declared.Settings.{Settings}
+use Rattle.std.proofs.Common.{sym, ◌∙◌, arith}
 use Rattle.lists.proofs.Left.{left-inside, left_stands, left-whole}
-use Rattle.lists.specs.List.{AllBytes}
-use Rattle.squeeze.specs.inner.Walk.{is_setting}
-use Rattle.squeeze.proofs.Output.{put_same}
-use Rattle.squeeze.proofs.Walk.{kind-below, kind_in, squeezing_more, Filled, filled-start, filled-room, filled-end, filled_setting, shape-room, filled-shape}
-use borrow.Author.Rules.{rules}
+use Rattle.squeeze.proofs.Walk.{kind-below, squeezing_more, taking_start, taking_setting, taking_shape-room, taking_shape, taking_end-room, taking_end}
 use Rattle.squeeze.proofs.put.put_records.Goals as goal
 
 pub loop-place-init : goal.loop-place-init
-loop-place-init c =
-    let l = c.args.out.now in
-    let list = c.args.list.now in
-    (λ b d e. subst (λ (c : Settings). Filled b list l header_size c c header_size l) e (filled-start b list l d), refl)
+loop-place-init g c =
+    let t = g.T.Target in
+    let a = c.args in
+    let first = taking_start (g.met.T.Target.none a.target.now) c.requires.walkable in
+    rw c.first_settings-settings.ensures first
 
 pub overflow_add-place : goal.overflow_add-place
-overflow_add-place c =
-    let turn : Filled c.args.basis c.args.list.now c.args.out.now c.loop-place.place c.loop-place.before c.loop-place.settings c.loop-place.end c.loop-place.out = c.loop-place.invariant.0 c.args.basis c.requires (sym c.first_settings-start.ensures) in
-    let inside : (c.loop-place.place < length c.args.list.now) × (kind_size (kind_in c.args.list.now c.loop-place.place) + c.loop-place.place ≤ length c.args.list.now) × (0 < kind_size (kind_in c.args.list.now c.loop-place.place)) = left-inside turn.walk.left in
-    let most : length c.args.list.now ≤ list_most = c.requires.0.most in
-    record { fits = omega (arith, inside.0, most) }
+overflow_add-place g c =
+    let inside = left-inside c.loop-place.invariant.walk.left in
+    record { fits = omega (arith, inside.0, c.requires.walkable.most) }
 
 pub decode-rec-requires : goal.decode-rec-requires
-decode-rec-requires c =
-    let turn : Filled c.args.basis c.args.list.now c.args.out.now c.loop-place.place c.loop-place.before c.loop-place.settings c.loop-place.end c.loop-place.out = c.loop-place.invariant.0 c.args.basis c.requires (sym c.first_settings-start.ensures) in
-    left-whole turn.walk.left
+decode-rec-requires g c = left-whole c.loop-place.invariant.walk.left
 
 pub next_place-place-requires : goal.next_place-place-requires
-next_place-place-requires c =
-    let turn : Filled c.args.basis c.args.list.now c.args.out.now c.loop-place.place c.loop-place.before c.loop-place.settings c.loop-place.end c.loop-place.out = c.loop-place.invariant.0 c.args.basis c.requires (sym c.first_settings-start.ensures) in
-    let inside : (c.loop-place.place < length c.args.list.now) × (kind_size (kind_in c.args.list.now c.loop-place.place) + c.loop-place.place ≤ length c.args.list.now) × (0 < kind_size (kind_in c.args.list.now c.loop-place.place)) = left-inside turn.walk.left in
-    let i = inside in
-    (omega arith, left_stands turn.walk.left)
+next_place-place-requires g c =
+    let inside = left-inside c.loop-place.invariant.walk.left in
+    (omega (arith, inside.0), left_stands c.loop-place.invariant.walk.left)
 
 pub loop-place-smaller-then-is_setting : goal.loop-place-smaller-then-is_setting
-loop-place-smaller-then-is_setting c =
-    let turn : Filled c.args.basis c.args.list.now c.args.out.now c.loop-place.place c.loop-place.before c.loop-place.settings c.loop-place.end c.loop-place.out = c.loop-place.invariant.0 c.args.basis c.requires (sym c.first_settings-start.ensures) in
-    let inside : (c.loop-place.place < length c.args.list.now) × (kind_size (kind_in c.args.list.now c.loop-place.place) + c.loop-place.place ≤ length c.args.list.now) × (0 < kind_size (kind_in c.args.list.now c.loop-place.place)) = left-inside turn.walk.left in
-    let i = inside in
-    omega (arith, c.next_place-place.ensures)
+loop-place-smaller-then-is_setting g c =
+    let inside = left-inside c.loop-place.invariant.walk.left in
+    omega (arith, inside.0, inside.2, c.next_place-place.ensures)
 
 pub loop-place-preserved-then-is_setting : goal.loop-place-preserved-then-is_setting
-loop-place-preserved-then-is_setting c =
-    let turn : Filled c.args.basis c.args.list.now c.args.out.now c.loop-place.place c.loop-place.before c.loop-place.settings c.loop-place.end c.loop-place.out = c.loop-place.invariant.0 c.args.basis c.requires (sym c.first_settings-start.ensures) in
-    let kind : ℕ = kind_in c.args.list.now c.loop-place.place in
-    let some : kind ≡ 0 → ⊥ = squeezing_more turn.walk c.loop-place-test.true in
-    let e = sym c.is_setting.ensures ∙ c.if-is_setting.true in
-    (λ b d s. filled_setting (c.loop-place.invariant.0 b d s) some c.decode-rec.ensures c.next_place-place.ensures e c.settings_after-settings.ensures, c.loop-place.invariant.1)
+loop-place-preserved-then-is_setting g c =
+    let turn = c.loop-place.invariant in
+    taking_setting turn (squeezing_more turn.walk c.loop-place-test.true) c.decode-rec.ensures c.next_place-place.ensures
+    (sym c.is_setting.ensures ∙ c.if-is_setting.true) c.settings_after-settings.ensures
 
 pub bounds-sizes-kind : goal.bounds-sizes-kind
-bounds-sizes-kind c =
-    let turn : Filled c.args.basis c.args.list.now c.args.out.now c.loop-place.place c.loop-place.before c.loop-place.settings c.loop-place.end c.loop-place.out = c.loop-place.invariant.0 c.args.basis c.requires (sym c.first_settings-start.ensures) in
-    let inside : (c.loop-place.place < length c.args.list.now) × (kind_size (kind_in c.args.list.now c.loop-place.place) + c.loop-place.place ≤ length c.args.list.now) × (0 < kind_size (kind_in c.args.list.now c.loop-place.place)) = left-inside turn.walk.left in
-    let kind : ℕ = kind_in c.args.list.now c.loop-place.place in
-    kind-below kind inside.2
+bounds-sizes-kind g c = kind-below _ (left-inside c.loop-place.invariant.walk.left).2
 
 pub overflow_add-next : goal.overflow_add-next
-overflow_add-next c =
-    let turn : Filled c.args.basis c.args.list.now c.args.out.now c.loop-place.place c.loop-place.before c.loop-place.settings c.loop-place.end c.loop-place.out = c.loop-place.invariant.0 c.args.basis c.requires (sym c.first_settings-start.ensures) in
-    let inside : (c.loop-place.place < length c.args.list.now) × (kind_size (kind_in c.args.list.now c.loop-place.place) + c.loop-place.place ≤ length c.args.list.now) × (0 < kind_size (kind_in c.args.list.now c.loop-place.place)) = left-inside turn.walk.left in
-    let most : length c.args.list.now ≤ list_most = c.requires.0.most in
-    let kind : ℕ = kind_in c.args.list.now c.loop-place.place in
-    let size_is : get_or c.kind_sizes-sizes.result kind 0 ≡ kind_size kind = c.kind_sizes-sizes.ensures kind inside.2 in
-    let i = inside in record { fits = omega (arith, i.1, size_is, most) }
+overflow_add-next g c =
+    let inside = left-inside c.loop-place.invariant.walk.left in
+    let size_is = c.kind_sizes-sizes.ensures _ inside.2 in
+    record { fits = omega (arith, inside.1, size_is, c.requires.walkable.most) }
 
-pub put_shape-end-requires : goal.put_shape-end-requires
-put_shape-end-requires c =
-    let turn : Filled c.args.basis c.args.list.now c.args.out.now c.loop-place.place c.loop-place.before c.loop-place.settings c.loop-place.end c.loop-place.out = c.loop-place.invariant.0 c.args.basis c.requires (sym c.first_settings-start.ensures) in
-    let inside : (c.loop-place.place < length c.args.list.now) × (kind_size (kind_in c.args.list.now c.loop-place.place) + c.loop-place.place ≤ length c.args.list.now) × (0 < kind_size (kind_in c.args.list.now c.loop-place.place)) = left-inside turn.walk.left in
-    let kind : ℕ = kind_in c.args.list.now c.loop-place.place in
-    let some : kind ≡ 0 → ⊥ = squeezing_more turn.walk c.loop-place-test.true in
-    let size_is : get_or c.kind_sizes-sizes.result kind 0 ≡ kind_size kind = c.kind_sizes-sizes.ensures kind inside.2 in
-    let bytes : AllBytes c.args.list.now = (λ i. omega (arith, c.type_inv.list i)) in
-    let next : ℕ = c.loop-place.place + get_or c.kind_sizes-sizes.result kind 0 in
-    let other : is_setting kind ≡ false = sym c.is_setting.ensures ∙ c.if-is_setting.false in
-    let past : next ≡ c.loop-place.place + kind_size kind = omega (arith, size_is) in
-    shape-room turn some past other bytes
+pub slice_bounds-bytes-end : goal.slice_bounds-bytes-end
+slice_bounds-bytes-end g c =
+    let inside = left-inside c.loop-place.invariant.walk.left in
+    let size_is = c.kind_sizes-sizes.ensures _ inside.2 in
+    omega (arith, inside.1, size_is)
+
+pub put_shape-requires : goal.put_shape-requires
+put_shape-requires g c =
+    let turn = c.loop-place.invariant in
+    let size_is = c.kind_sizes-sizes.ensures _ (left-inside turn.walk.left).2 in
+    taking_shape-room turn c.requires.room (squeezing_more turn.walk c.loop-place-test.true) (omega (arith, size_is))
+    (sym c.is_setting.ensures ∙ c.if-is_setting.false) (λ i. omega (arith, c.type_inv.list i))
 
 pub loop-place-smaller : goal.loop-place-smaller
-loop-place-smaller c =
-    let turn : Filled c.args.basis c.args.list.now c.args.out.now c.loop-place.place c.loop-place.before c.loop-place.settings c.loop-place.end c.loop-place.out = c.loop-place.invariant.0 c.args.basis c.requires (sym c.first_settings-start.ensures) in
-    let inside : (c.loop-place.place < length c.args.list.now) × (kind_size (kind_in c.args.list.now c.loop-place.place) + c.loop-place.place ≤ length c.args.list.now) × (0 < kind_size (kind_in c.args.list.now c.loop-place.place)) = left-inside turn.walk.left in
-    let kind : ℕ = kind_in c.args.list.now c.loop-place.place in
-    let size_is : get_or c.kind_sizes-sizes.result kind 0 ≡ kind_size kind = c.kind_sizes-sizes.ensures kind inside.2 in
-    let next : ℕ = c.loop-place.place + get_or c.kind_sizes-sizes.result kind 0 in
-    let past : next ≡ c.loop-place.place + kind_size kind = omega (arith, size_is) in
-    let i = inside in
-    omega (arith, past)
+loop-place-smaller g c =
+    let inside = left-inside c.loop-place.invariant.walk.left in
+    let size_is = c.kind_sizes-sizes.ensures _ inside.2 in
+    omega (arith, inside.1, inside.2, size_is)
 
 pub loop-place-preserved : goal.loop-place-preserved
-loop-place-preserved c =
-    let turn : Filled c.args.basis c.args.list.now c.args.out.now c.loop-place.place c.loop-place.before c.loop-place.settings c.loop-place.end c.loop-place.out = c.loop-place.invariant.0 c.args.basis c.requires (sym c.first_settings-start.ensures) in
-    let inside : (c.loop-place.place < length c.args.list.now) × (kind_size (kind_in c.args.list.now c.loop-place.place) + c.loop-place.place ≤ length c.args.list.now) × (0 < kind_size (kind_in c.args.list.now c.loop-place.place)) = left-inside turn.walk.left in
-    let kind : ℕ = kind_in c.args.list.now c.loop-place.place in
-    let some : kind ≡ 0 → ⊥ = squeezing_more turn.walk c.loop-place-test.true in
-    let size_is : get_or c.kind_sizes-sizes.result kind 0 ≡ kind_size kind = c.kind_sizes-sizes.ensures kind inside.2 in
-    let bytes : AllBytes c.args.list.now = (λ i. omega (arith, c.type_inv.list i)) in
-    let next : ℕ = c.loop-place.place + get_or c.kind_sizes-sizes.result kind 0 in
-    let other : is_setting kind ≡ false = sym c.is_setting.ensures ∙ c.if-is_setting.false in
-    let past : next ≡ c.loop-place.place + kind_size kind = omega (arith, size_is) in
-    let adds = c.put_shape-end.ensures in (
-      λ b d e. filled-shape (c.loop-place.invariant.0 b d e) some past other bytes adds,
-      put_same (shape-room turn some past other bytes) adds ∙ c.loop-place.invariant.1,
-    )
+loop-place-preserved g c =
+    let turn = c.loop-place.invariant in
+    let size_is = c.kind_sizes-sizes.ensures _ (left-inside turn.walk.left).2 in
+    taking_shape turn c.requires.room (squeezing_more turn.walk c.loop-place-test.true) (omega (arith, size_is))
+    (sym c.is_setting.ensures ∙ c.if-is_setting.false) (λ i. omega (arith, c.type_inv.list i)) g.met.T.Target.joins c.put_shape.ensures
 
-pub bounds-out-end : goal.bounds-out-end
-bounds-out-end c =
-    let turn : Filled c.args.basis c.args.list.now c.args.out.now c.loop-place.place c.loop-place.before c.loop-place.settings c.loop-place.end c.loop-place.out = c.loop-place.invariant.0 c.args.basis c.requires (sym c.first_settings-start.ensures) in
-    filled-room turn c.loop-place-test.false
+pub put-requires : goal.put-requires
+put-requires g c = taking_end-room c.loop-place.invariant c.requires.room c.loop-place-test.false
 
 pub returns : goal.returns
-returns c =
-    let turn : Filled c.args.basis c.args.list.now c.args.out.now c.loop-place.place c.loop-place.before c.loop-place.settings c.loop-place.end c.loop-place.out = c.loop-place.invariant.0 c.args.basis c.requires (sym c.first_settings-start.ensures) in
-    filled-end turn c.loop-place-test.false
-
-pub slice_bounds-put_shape-end : goal.slice_bounds-put_shape-end
-slice_bounds-put_shape-end c =
-    let turn : Filled c.args.basis c.args.list.now c.args.out.now c.loop-place.place c.loop-place.before c.loop-place.settings c.loop-place.end c.loop-place.out = c.loop-place.invariant.0 c.args.basis c.requires (sym c.first_settings-start.ensures) in
-    let inside : (c.loop-place.place < length c.args.list.now) × (kind_size (kind_in c.args.list.now c.loop-place.place) + c.loop-place.place ≤ length c.args.list.now) × (0 < kind_size (kind_in c.args.list.now c.loop-place.place)) = left-inside turn.walk.left in
-    let kind : ℕ = kind_in c.args.list.now c.loop-place.place in
-    let size_is : get_or c.kind_sizes-sizes.result kind 0 ≡ kind_size kind = c.kind_sizes-sizes.ensures kind inside.2 in
-    let next : ℕ = c.loop-place.place + get_or c.kind_sizes-sizes.result kind 0 in
-    let past : next ≡ c.loop-place.place + kind_size kind = omega (arith, size_is) in
-    let i = inside in
-    let e = past in
-    search rules
+returns g c = taking_end c.loop-place.invariant c.requires.room g.met.T.Target.joins c.loop-place-test.false c.put.ensures
