@@ -2,3 +2,4 @@
 pub mod Walk
 pub mod Target
 pub mod Filled
+pub mod Source
