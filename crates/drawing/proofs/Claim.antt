@@ -1,10 +1,10 @@
 -- The claim about a list, refused and accepted.
-use mathlib.Core.Path.{◌≡◌, refl, sym, subst}
+use mathlib.Core.Path.{◌≡◌, refl, sym, ap, subst}
 use mathlib.Core.List.{List, [], ◌++◌}
 use Prim.Native.Nat.{ℕ, ◌+◌, ◌*◌, ◌^◌, ◌≤◌, ◌<◌}
 use native.Mathlib.Nat.{mul-le-mul}
 use native.Mathlib.Omega.{arith}
-use Rattle.std.specs.Prelude.{Result, Ok, Err}
+use Rattle.std.specs.Prelude.{Ok, Err}
 use lib.ListN.{length, get_or, replicate, take, drop, length-take}
 use Rattle.numbers.specs.Sum.{total}
 use Rattle.limits.proofs.Limits.{basis-size}
@@ -15,7 +15,6 @@ use Rattle.settings.specs.Drawing.{Drawing, drawings}
 use Rattle.settings.specs.Settings.{start}
 use Rattle.lists.specs.inner.Walk.{list_drawings}
 use Rattle.format.specs.declared.Header.{Header}
-use Rattle.lists.specs.declared.check.Accepted.{Accepted}
 use Rattle.lists.proofs.InForce.{start-clip}
 use Rattle.lists.proofs.Walkable.{found, room, lit, list_walkable, drawings_are}
 use Rattle.draw.proofs.Refusals.{view_lawful}
@@ -41,8 +40,9 @@ refused-claim lights s l f place e = go (page_records s (length l) lights) e
     go : (x : Records) → Err (f, place) ≡ checked_as (header_at s) x → ClaimBy lights (header_at s) x l (record { answer = Err (f, place); touched = replicate 8 0 }) l
     go (accepted rs) k = absurd (let z : ◌≡◌ {A = ℕ} 0 1 = cc in omega arith)
     go (refused g q) k =
-        let a : f ≡ g = cc in
-        let b : place ≡ q = cc in
+        let both : ◌≡◌ {A = ℕ × ℕ} (f, place) (g, q) = cc in
+        let a : f ≡ g = ap (λ (z : ℕ × ℕ). z.0) both in
+        let b : place ≡ q = ap (λ (z : ℕ × ℕ). z.1) both in
         let d = header_at s in
         record { answer = rw (a, b); page = refl; bound = tt; counts = counted d.version d.w d.h [] (replicate 8 0) tt (none-counted d.w d.h) }
 

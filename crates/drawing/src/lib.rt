@@ -49,15 +49,21 @@ fn draw_record<P: Palette>(
     ensures { ((player : ℕ) → ShapesDrawn (P.lights palette) basis (drawing_of (settings_of clip level player) rec) page.old page.new result) × (result ≤ 1048576) × (level ≤ 255) }
 {
     match rec {
+        Record::Setting(_) => 0,
         Record::Shape(shape) => {
             shape.draw(page, palette, draw::view_of(basis.w, basis.h, clip), level)
         }
-        Record::Setting(_) | Record::End => 0,
+        Record::End => 0,
     }
 }
 
 // Draws the records of a list one after the other; hands back how many pixels those of each player touched.
-fn draw_records<P: Palette>(page: &mut [u8], palette: P, list: &[u8], basis: Basis) -> [u64; PLAYERS]
+fn draw_records<P: Palette>(
+    page: &mut [u8],
+    palette: P,
+    list: &[u8],
+    basis: Basis,
+) -> [u64; PLAYERS]
     requires { Drawable list.now basis (length page.old) }
     ensures { ListDrawn (P.lights palette) basis (list_drawings basis list.now) page.old page.new result }
 {
@@ -70,7 +76,7 @@ fn draw_records<P: Palette>(page: &mut [u8], palette: P, list: &[u8], basis: Bas
             return touched;
         }
         let rec = decoding::decode(&list[place..]);
-        let player = usize::from(settings.player);
+        let player = settings.player as usize;
         let own = draw_record(page, palette, basis, settings.clip, settings.level, rec);
         touched[player] += own;
         settings = settings.after(rec);
@@ -110,7 +116,13 @@ fn paint_in(
         Steps::Uneven => {
             let mut palette = [0u16; PALETTE];
             fill_palette(&mut palette, lights);
-            paint(page, UnevenLights { palette: &palette }, list, basis, background)
+            paint(
+                page,
+                UnevenLights { palette: &palette },
+                list,
+                basis,
+                background,
+            )
         }
     }
 }
@@ -127,11 +139,18 @@ pub fn draw_list(page: &mut [u8], lights: &[u16], list: &[u8]) -> Outcome
             touched: [0; PLAYERS],
         },
         Ok(Accepted { header, .. }) => {
-            let n = usize::from(header.w) * usize::from(header.h);
+            let n = (header.w as usize) * (header.h as usize);
             let basis = Basis::from(header);
             // no list is accepted in unfit lights
             let known = steps.unwrap();
-            let touched = paint_in(&mut page[..n], lights, known, list, basis, header.background);
+            let touched = paint_in(
+                &mut page[..n],
+                lights,
+                known,
+                list,
+                basis,
+                header.background,
+            );
             let size = Size {
                 w: header.w,
                 h: header.h,

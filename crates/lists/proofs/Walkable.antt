@@ -14,7 +14,6 @@ use Rattle.shapes.specs.declared.Record.{Record}
 use Rattle.format.specs.Format.{header_at, basis_of}
 use Rattle.lists.specs.List.{Records, accepted, page_tests, records_of, checked_of}
 use Rattle.format.specs.declared.Header.{Header}
-use Rattle.lists.specs.declared.check.Accepted.{Accepted}
 use Rattle.lists.proofs.Headers.{headed}
 use Rattle.lists.proofs.Accepted.{list-headed, AcceptedAs, checked-accepted}
 use Rattle.settings.specs.Drawing.{drawings}
