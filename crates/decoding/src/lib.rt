@@ -100,7 +100,7 @@ fn triangle_at(list: &[u8]) -> Triangle
     }
 }
 
-// The record whose bytes stand at the front. Lines of both kinds are read in one arm: with two the check of a list takes longer.
+// The record whose bytes stand at the front.
 #[tactic(auto, using(format::proofs::Bytes::unknown_kind_lem), unfolding(format::specs::Format::kind_size, format::specs::Format::decoded))]
 pub fn decode(list: &[u8]) -> Record
     requires { Whole list.now }
@@ -111,6 +111,7 @@ pub fn decode(list: &[u8]) -> Record
         Kind::End => Record::End,
         Kind::Clip => Record::Setting(Setting::Clip(clip_at(list))),
         Kind::Level => Record::Setting(Setting::Level(list[1])),
+        // One arm for both: with an arm each the check of a list was slower.
         Kind::ExactLine | Kind::ApproximateLine => {
             Record::Shape(Shape::Line(line_at(kind == Kind::ExactLine, list)))
         }
