@@ -2,7 +2,7 @@
 ghost use Rattle.std.specs.Prelude.{◌≡◌};
 ghost use Rattle.answers.specs.List.{check_answer, squeeze_answered, list_answered};
 
-use arguments::{GivenBasis, basis_given};
+use arguments::GivenBasis;
 use lists::check::Checked;
 use shapes::PLAYERS;
 
@@ -17,29 +17,30 @@ pub struct CheckAnswer {
     pub ceiling: u64,
 }
 
-// The answer of the check in the form that C takes.
-pub fn check_answer(checked: Checked) -> CheckAnswer
-    ensures { result ≡ check_answer checked }
-{
-    match checked {
-        Checked::Accepted { header, ceiling } => CheckAnswer {
-            refusal: 0,
-            place: 0,
-            basis: basis_given(format::basis_of(header)),
-            background: header.background,
-            ceiling,
-        },
-        Checked::Refused { refusal, place } => CheckAnswer {
-            refusal: refusal as u32,
-            place,
-            basis: GivenBasis {
-                version: 0,
-                w: 0,
-                h: 0,
+impl From<Checked> for CheckAnswer {
+    ghost from_gives = { λ checked answer. answer ≡ check_answer checked };
+
+    fn from(checked: Checked) -> CheckAnswer {
+        match checked {
+            Checked::Accepted { header, ceiling } => CheckAnswer {
+                refusal: 0,
+                place: 0,
+                basis: format::basis_of(header).into(),
+                background: header.background,
+                ceiling,
             },
-            background: 0,
-            ceiling: 0,
-        },
+            Checked::Refused { refusal, place } => CheckAnswer {
+                refusal: refusal.into(),
+                place,
+                basis: GivenBasis {
+                    version: 0,
+                    w: 0,
+                    h: 0,
+                },
+                background: 0,
+                ceiling: 0,
+            },
+        }
     }
 }
 
@@ -54,27 +55,29 @@ pub struct ListAnswer {
     pub touched: [u64; PLAYERS],
 }
 
-// The library's answer in the form that C takes.
-pub fn list_answer(outcome: drawing::Outcome) -> ListAnswer
-    ensures { result ≡ list_answered outcome }
-{
-    let answer = outcome.answer;
-    let touched = outcome.touched;
-    match answer {
-        drawing::Answer::Drawn { w, h } => ListAnswer {
-            refusal: 0,
-            place: 0,
-            w: w as u32,
-            h: h as u32,
-            touched,
-        },
-        drawing::Answer::Refused { refusal, place } => ListAnswer {
-            refusal: refusal as u32,
-            place,
-            w: 0,
-            h: 0,
-            touched,
-        },
+impl From<drawing::Outcome> for ListAnswer {
+    ghost from_gives = { λ outcome answer. answer ≡ list_answered outcome };
+
+    #[tactic(auto, unfolding(crate::specs::List::list_answered))]
+    fn from(outcome: drawing::Outcome) -> ListAnswer {
+        let answer = outcome.answer;
+        let touched = outcome.touched;
+        match answer {
+            drawing::Answer::Drawn { w, h } => ListAnswer {
+                refusal: 0,
+                place: 0,
+                w: w.into(),
+                h: h.into(),
+                touched,
+            },
+            drawing::Answer::Refused { refusal, place } => ListAnswer {
+                refusal: refusal.into(),
+                place,
+                w: 0,
+                h: 0,
+                touched,
+            },
+        }
     }
 }
 
@@ -87,20 +90,21 @@ pub struct SqueezeAnswer {
     pub length: usize,
 }
 
-// The library's answer in the form that C takes.
-pub fn squeeze_answer(answer: squeezed::Answer) -> SqueezeAnswer
-    ensures { result ≡ squeeze_answered answer }
-{
-    match answer {
-        squeezed::Answer::Squeezed(length) => SqueezeAnswer {
-            refusal: 0,
-            place: 0,
-            length,
-        },
-        squeezed::Answer::Refused { refusal, place } => SqueezeAnswer {
-            refusal: refusal as u32,
-            place,
-            length: 0,
-        },
+impl From<squeezed::Answer> for SqueezeAnswer {
+    ghost from_gives = { λ answer given. given ≡ squeeze_answered answer };
+
+    fn from(answer: squeezed::Answer) -> SqueezeAnswer {
+        match answer {
+            squeezed::Answer::Squeezed(length) => SqueezeAnswer {
+                refusal: 0,
+                place: 0,
+                length,
+            },
+            squeezed::Answer::Refused { refusal, place } => SqueezeAnswer {
+                refusal: refusal.into(),
+                place,
+                length: 0,
+            },
+        }
     }
 }

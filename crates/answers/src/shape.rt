@@ -12,23 +12,24 @@ pub struct CoverageAnswer {
     pub d: u64,
 }
 
-// The library's answer in the form that C takes.
-pub fn coverage_answer(answer: coverage::Answer) -> CoverageAnswer
-    ensures { result ≡ answered answer }
-{
-    match answer {
-        coverage::Answer::Covered(ratio) => CoverageAnswer {
-            refusal: 0,
-            place: 0,
-            n: ratio.n,
-            d: ratio.d,
-        },
-        coverage::Answer::Refused(refusal) => CoverageAnswer {
-            refusal: refusal as u32,
-            place: 0,
-            n: 0,
-            d: 0,
-        },
+impl From<coverage::Answer> for CoverageAnswer {
+    ghost from_gives = { λ answer given. given ≡ answered answer };
+
+    fn from(answer: coverage::Answer) -> CoverageAnswer {
+        match answer {
+            coverage::Answer::Covered(ratio) => CoverageAnswer {
+                refusal: 0,
+                place: 0,
+                n: ratio.n,
+                d: ratio.d,
+            },
+            coverage::Answer::Refused(refusal) => CoverageAnswer {
+                refusal: refusal.into(),
+                place: 0,
+                n: 0,
+                d: 0,
+            },
+        }
     }
 }
 
@@ -41,21 +42,22 @@ pub struct DrawAnswer {
     pub touched: u64,
 }
 
-// The library's answer in the form that C takes.
-pub fn draw_answer(outcome: draw::Outcome) -> DrawAnswer
-    ensures { result ≡ drawn outcome }
-{
-    match outcome {
-        draw::Outcome::Touched(touched) => DrawAnswer {
-            refusal: 0,
-            place: 0,
-            touched,
-        },
-        draw::Outcome::Refused(refusal) => DrawAnswer {
-            refusal: refusal as u32,
-            place: 0,
-            touched: 0,
-        },
+impl From<draw::Outcome> for DrawAnswer {
+    ghost from_gives = { λ outcome given. given ≡ drawn outcome };
+
+    fn from(outcome: draw::Outcome) -> DrawAnswer {
+        match outcome {
+            draw::Outcome::Touched(touched) => DrawAnswer {
+                refusal: 0,
+                place: 0,
+                touched,
+            },
+            draw::Outcome::Refused(refusal) => DrawAnswer {
+                refusal: refusal.into(),
+                place: 0,
+                touched: 0,
+            },
+        }
     }
 }
 
@@ -69,28 +71,29 @@ pub struct ColumnAnswer {
     pub column: u64,
 }
 
-// The library's answer in the form that C takes.
-pub fn column_answer(reach: last_column::Reach) -> ColumnAnswer
-    ensures { result ≡ reached reach }
-{
-    match reach {
-        last_column::Reach::Last(column) => ColumnAnswer {
-            refusal: 0,
-            place: 0,
-            found: 1,
-            column,
-        },
-        last_column::Reach::Nothing => ColumnAnswer {
-            refusal: 0,
-            place: 0,
-            found: 0,
-            column: 0,
-        },
-        last_column::Reach::Refused(refusal) => ColumnAnswer {
-            refusal: refusal as u32,
-            place: 0,
-            found: 0,
-            column: 0,
-        },
+impl From<last_column::Reach> for ColumnAnswer {
+    ghost from_gives = { λ reach given. given ≡ reached reach };
+
+    fn from(reach: last_column::Reach) -> ColumnAnswer {
+        match reach {
+            last_column::Reach::Last(column) => ColumnAnswer {
+                refusal: 0,
+                place: 0,
+                found: 1,
+                column,
+            },
+            last_column::Reach::Nothing => ColumnAnswer {
+                refusal: 0,
+                place: 0,
+                found: 0,
+                column: 0,
+            },
+            last_column::Reach::Refused(refusal) => ColumnAnswer {
+                refusal: refusal.into(),
+                place: 0,
+                found: 0,
+                column: 0,
+            },
+        }
     }
 }

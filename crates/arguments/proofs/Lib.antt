@@ -1,3 +1,2 @@
 -- The laws of the numbers that are taken.
-pub mod Held
 pub mod Refused

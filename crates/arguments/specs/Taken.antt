@@ -1,5 +1,5 @@
 -- The numbers of C as the library takes them: what 16 bits do not hold becomes a number that is refused (R8.1).
-use Rattle.std.specs.Prelude.{Bool, true, false, cond, ◌||◌, List, ℕ, min, ltb, eqb, ℤ, pos, negsuc, get_or}
+use Rattle.std.specs.Prelude.{Bool, true, false, cond, ◌||◌, List, ℕ, min, ltb, eqb, ℤ, pos, negsuc, get_or, Option, Some, None}
 use Rattle.std.specs.Int.Signed.{lt_z}
 use Rattle.limits.specs.Limits.{basis_by}
 use Rattle.shapes.specs.declared.Basis.{Basis}
@@ -8,12 +8,11 @@ use Rattle.shapes.specs.declared.Line.{Line}
 use Rattle.shapes.specs.declared.Disc.{Disc}
 use Rattle.shapes.specs.declared.Ring.{Ring}
 use Rattle.shapes.specs.declared.Triangle.{Triangle}
+use Rattle.shapes.specs.declared.Shape.{Shape}
 use Rattle.shapes.specs.declared.Shape.TheVariants.{Line as line, Disc as disc, Ring as ring, Triangle as triangle}
 use Rattle.arguments.specs.declared.GivenBasis.{GivenBasis}
 use Rattle.arguments.specs.declared.GivenClip.{GivenClip}
 use Rattle.arguments.specs.declared.GivenShape.{GivenShape}
-use Rattle.arguments.specs.declared.Taken.{Taken}
-use Rattle.arguments.specs.declared.Taken.TheVariants.{Known, Unknown}
 
 -- a coordinate of a shape or a pixel; 32,767 is refused by 7
 unfoldable pub coordinate_of : ℤ → ℤ
@@ -74,16 +73,16 @@ triangle_of ns =
       y2 = given_coordinate ns 5;
     }
 
--- the shape of a kind by its numbers; a number of no kind is unknown
-abbrev pub taken_by : ℕ → List ℤ → Taken
+-- the shape of a kind by its numbers, or none for a number of no kind
+abbrev pub taken_by : ℕ → List ℤ → Option Shape
 taken_by k ns =
-    cond (eqb k 3) (Known (line (line_of true ns)))
-    (cond (eqb k 4) (Known (line (line_of false ns)))
-    (cond (eqb k 5) (Known (disc (disc_of false ns)))
-    (cond (eqb k 6) (Known (ring (ring_of false ns)))
-    (cond (eqb k 8) (Known (disc (disc_of true ns)))
-    (cond (eqb k 9) (Known (ring (ring_of true ns)))
-    (cond (eqb k 10) (Known (triangle (triangle_of ns))) Unknown))))))
+    cond (eqb k 3) (Some (line (line_of true ns)))
+    (cond (eqb k 4) (Some (line (line_of false ns)))
+    (cond (eqb k 5) (Some (disc (disc_of false ns)))
+    (cond (eqb k 6) (Some (ring (ring_of false ns)))
+    (cond (eqb k 8) (Some (disc (disc_of true ns)))
+    (cond (eqb k 9) (Some (ring (ring_of true ns)))
+    (cond (eqb k 10) (Some (triangle (triangle_of ns))) None))))))
 
-unfoldable pub taken_of : GivenShape → Taken
+unfoldable pub taken_of : GivenShape → Option Shape
 taken_of s = taken_by s.kind s.numbers

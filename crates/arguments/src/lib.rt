@@ -32,149 +32,140 @@ pub struct GivenClip {
     pub y1: u32,
 }
 
-// The shape of the given numbers, or that there is none of the kind.
-#[derive(Clone, Copy)]
-pub enum Taken {
-    Known(Shape),
-    Unknown,
-}
-
 // A coordinate of a shape or a pixel.
+#[tactic(auto, unfolding(crate::specs::Taken::coordinate_of))]
 pub fn coordinate(z: i32) -> i16
     ensures { result ≡ coordinate_of z }
 {
-    if z < -32768 {
-        return 32767;
-    }
-    if 32767 < z {
-        return 32767;
-    }
-    z as i16
+    i16::try_from(z).unwrap_or(i16::MAX)
 }
 
 // A version, W or H.
+#[tactic(auto, unfolding(crate::specs::Taken::unsigned_of))]
 pub fn unsigned(n: u32) -> u16
     ensures { result ≡ unsigned_of n }
 {
-    if 65535 < n {
-        return 0;
-    }
-    n as u16
+    u16::try_from(n).unwrap_or(0)
 }
 
-// A number of a clip, a radius or a ring's width.
+// A number of a clip.
+#[tactic(auto, unfolding(crate::specs::Taken::edge_of))]
 fn edge(n: u32) -> u16
     ensures { result ≡ edge_of n }
 {
-    if 65535 < n {
-        return 65535;
-    }
-    n as u16
+    u16::try_from(n).unwrap_or(u16::MAX)
 }
 
 // A radius or a ring's width, which C gives with a sign.
+#[tactic(auto, unfolding(crate::specs::Taken::measure_of, crate::specs::Taken::edge_of))]
 fn measure(z: i32) -> u16
     ensures { result ≡ measure_of z }
 {
-    if z < 0 {
-        return 0;
-    }
-    edge(z as u32)
+    u16::try_from(z.max(0)).unwrap_or(u16::MAX)
 }
 
-pub fn basis_of(given: GivenBasis) -> Basis
-    ensures { result ≡ basis_taken given }
-{
-    Basis {
-        version: unsigned(given.version),
-        w: unsigned(given.w),
-        h: unsigned(given.h),
-    }
-}
+impl From<GivenBasis> for Basis {
+    ghost from_gives = { λ given basis. basis ≡ basis_taken given };
 
-// A basis in the form that C takes.
-pub fn basis_given(basis: Basis) -> GivenBasis
-    ensures { result ≡ basis_given basis }
-{
-    GivenBasis {
-        version: basis.version as u32,
-        w: basis.w as u32,
-        h: basis.h as u32,
+    fn from(given: GivenBasis) -> Basis {
+        Basis {
+            version: unsigned(given.version),
+            w: unsigned(given.w),
+            h: unsigned(given.h),
+        }
     }
 }
 
-pub fn clip_of(given: GivenClip) -> Clip
-    ensures { result ≡ clip_of given }
-{
-    Clip {
-        x0: edge(given.x0),
-        y0: edge(given.y0),
-        x1: edge(given.x1),
-        y1: edge(given.y1),
+impl From<Basis> for GivenBasis {
+    ghost from_gives = { λ basis given. given ≡ basis_given basis };
+
+    fn from(basis: Basis) -> GivenBasis {
+        GivenBasis {
+            version: basis.version.into(),
+            w: basis.w.into(),
+            h: basis.h.into(),
+        }
     }
 }
 
-pub fn line_of(exact: bool, numbers: [i32; 6]) -> Line
-    ensures { result ≡ line_of exact numbers }
-{
-    Line {
-        exact,
-        x0: coordinate(numbers[0]),
-        y0: coordinate(numbers[1]),
-        x1: coordinate(numbers[2]),
-        y1: coordinate(numbers[3]),
+impl From<GivenClip> for Clip {
+    ghost from_gives = { λ given clip. clip ≡ clip_of given };
+
+    #[tactic(auto, unfolding(crate::specs::Taken::clip_of))]
+    fn from(given: GivenClip) -> Clip {
+        Clip {
+            x0: edge(given.x0),
+            y0: edge(given.y0),
+            x1: edge(given.x1),
+            y1: edge(given.y1),
+        }
     }
 }
 
-pub fn disc_of(big: bool, numbers: [i32; 6]) -> Disc
-    ensures { result ≡ disc_of big numbers }
-{
-    Disc {
-        x: coordinate(numbers[0]),
-        y: coordinate(numbers[1]),
-        radius: measure(numbers[2]),
-        big,
+// The shapes of each kind by the numbers.
+impl GivenShape {
+    pub fn line(self, exact: bool) -> Line
+        ensures { result ≡ line_of exact self.numbers }
+    {
+        Line {
+            exact,
+            x0: coordinate(self.numbers[0]),
+            y0: coordinate(self.numbers[1]),
+            x1: coordinate(self.numbers[2]),
+            y1: coordinate(self.numbers[3]),
+        }
+    }
+
+    pub fn disc(self, big: bool) -> Disc
+        ensures { result ≡ disc_of big self.numbers }
+    {
+        Disc {
+            x: coordinate(self.numbers[0]),
+            y: coordinate(self.numbers[1]),
+            radius: measure(self.numbers[2]),
+            big,
+        }
+    }
+
+    pub fn ring(self, big: bool) -> Ring
+        ensures { result ≡ ring_of big self.numbers }
+    {
+        Ring {
+            x: coordinate(self.numbers[0]),
+            y: coordinate(self.numbers[1]),
+            radius: measure(self.numbers[2]),
+            width: measure(self.numbers[3]),
+            big,
+        }
+    }
+
+    pub fn triangle(self) -> Triangle
+        ensures { result ≡ triangle_of self.numbers }
+    {
+        Triangle {
+            x0: coordinate(self.numbers[0]),
+            y0: coordinate(self.numbers[1]),
+            x1: coordinate(self.numbers[2]),
+            y1: coordinate(self.numbers[3]),
+            x2: coordinate(self.numbers[4]),
+            y2: coordinate(self.numbers[5]),
+        }
     }
 }
 
-pub fn ring_of(big: bool, numbers: [i32; 6]) -> Ring
-    ensures { result ≡ ring_of big numbers }
-{
-    Ring {
-        x: coordinate(numbers[0]),
-        y: coordinate(numbers[1]),
-        radius: measure(numbers[2]),
-        width: measure(numbers[3]),
-        big,
-    }
-}
-
-pub fn triangle_of(numbers: [i32; 6]) -> Triangle
-    ensures { result ≡ triangle_of numbers }
-{
-    Triangle {
-        x0: coordinate(numbers[0]),
-        y0: coordinate(numbers[1]),
-        x1: coordinate(numbers[2]),
-        y1: coordinate(numbers[3]),
-        x2: coordinate(numbers[4]),
-        y2: coordinate(numbers[5]),
-    }
-}
-
-pub fn taken_of(given: GivenShape) -> Taken
+// The shape of the given numbers, or none where there is none of the kind.
+#[tactic(auto, unfolding(crate::specs::Taken::taken_of))]
+pub fn taken_of(given: GivenShape) -> Option<Shape>
     ensures { result ≡ taken_of given }
 {
-    let kind = given.kind;
-    let numbers = given.numbers;
-    match kind {
-        3 => Taken::Known(Shape::Line(line_of(true, numbers))),
-        4 => Taken::Known(Shape::Line(line_of(false, numbers))),
-        5 => Taken::Known(Shape::Disc(disc_of(false, numbers))),
-        6 => Taken::Known(Shape::Ring(ring_of(false, numbers))),
-        8 => Taken::Known(Shape::Disc(disc_of(true, numbers))),
-        9 => Taken::Known(Shape::Ring(ring_of(true, numbers))),
-        10 => Taken::Known(Shape::Triangle(triangle_of(numbers))),
-        _ => Taken::Unknown,
+    match given.kind {
+        3 => Some(Shape::Line(given.line(true))),
+        4 => Some(Shape::Line(given.line(false))),
+        5 => Some(Shape::Disc(given.disc(false))),
+        6 => Some(Shape::Ring(given.ring(false))),
+        8 => Some(Shape::Disc(given.disc(true))),
+        9 => Some(Shape::Ring(given.ring(true))),
+        10 => Some(Shape::Triangle(given.triangle())),
+        _ => None,
     }
 }

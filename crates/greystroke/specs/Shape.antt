@@ -1,5 +1,5 @@
 -- One shape by the numbers of C: asked for its coverage, drawn, asked for its last column (R8.7).
-use Rattle.std.specs.Prelude.{cond, ◌||◌, List, ℕ, eqb, ℤ}
+use Rattle.std.specs.Prelude.{cond, ◌||◌, List, ℕ, eqb, ℤ, Option, None, Some}
 use Rattle.coverage.specs.Coverage.{queried}
 use Rattle.coverage.specs.declared.Answer.{Answer}
 use Rattle.coverage.specs.declared.Answer.TheVariants.{Refused}
@@ -12,26 +12,25 @@ use Rattle.last_column.specs.declared.Reach.TheVariants.{Refused as ReachRefused
 use Rattle.arguments.specs.Taken.{coordinate_of, unsigned_of, clip_of, line_of}
 use Rattle.arguments.specs.declared.GivenClip.{GivenClip}
 use Rattle.arguments.specs.declared.GivenShape.{GivenShape}
-use Rattle.arguments.specs.declared.Taken.{Taken}
-use Rattle.arguments.specs.declared.Taken.TheVariants.{Known, Unknown}
+use Rattle.shapes.specs.declared.Shape.{Shape}
 
 -- the refusal of a kind that is no shape's, tried before all others
 abbrev pub unknown_kind : ℕ
 unknown_kind = 4
 
 -- a query by the numbers of C
-unfoldable pub coverage_asked : Taken → ℤ → ℤ → Answer
-coverage_asked (Known s) x y = queried s (coordinate_of x) (coordinate_of y)
-coverage_asked Unknown x y = Refused unknown_kind
+unfoldable pub coverage_asked : Option Shape → ℤ → ℤ → Answer
+coverage_asked (Some s) x y = queried s (coordinate_of x) (coordinate_of y)
+coverage_asked None x y = Refused unknown_kind
 
 -- a shape drawn by the numbers of C on a page of so many bytes in some lights, and the page after it
-unfoldable pub shape_drawn : ℕ → ℕ → ℕ → List ℕ → GivenClip → Taken → Outcome
-shape_drawn w h size lights c (Known s) = shape_outcome (unsigned_of w) (unsigned_of h) size lights (clip_of c) s
-shape_drawn w h size lights c Unknown = DrawRefused unknown_kind
+unfoldable pub shape_drawn : ℕ → ℕ → ℕ → List ℕ → GivenClip → Option Shape → Outcome
+shape_drawn w h size lights c (Some s) = shape_outcome (unsigned_of w) (unsigned_of h) size lights (clip_of c) s
+shape_drawn w h size lights c None = DrawRefused unknown_kind
 
-unfoldable pub page_drawn : ℕ → ℕ → List ℕ → GivenClip → ℕ → Taken → List ℕ → List ℕ
-page_drawn w h lights c v (Known s) l = shape_page (unsigned_of w) (unsigned_of h) lights (clip_of c) v s l
-page_drawn w h lights c v Unknown l = l
+unfoldable pub page_drawn : ℕ → ℕ → List ℕ → GivenClip → ℕ → Option Shape → List ℕ → List ℕ
+page_drawn w h lights c v (Some s) l = shape_page (unsigned_of w) (unsigned_of h) lights (clip_of c) v s l
+page_drawn w h lights c v None l = l
 
 -- the last column by the numbers of C; only the kinds 3 and 4, the lines, have columns
 unfoldable pub column_asked : ℕ → ℕ → GivenClip → GivenShape → Reach

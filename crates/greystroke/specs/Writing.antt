@@ -1,13 +1,12 @@
 -- A header and a record written by the numbers of C, and the list after it (R7.7, R8.7).
-use Rattle.std.specs.Prelude.{List, ℕ}
+use Rattle.std.specs.Prelude.{List, ℕ, Option, None, Some}
 use Rattle.shapes.specs.declared.Record.{Record}
 use Rattle.shapes.specs.declared.Record.TheVariants.{Shape as shape}
 use Rattle.format.specs.declared.Header.{Header}
 use Rattle.records.specs.Write.{header_written, record_written, record_list}
 use Rattle.arguments.specs.Taken.{unsigned_of, basis_taken}
 use Rattle.arguments.specs.declared.GivenBasis.{GivenBasis}
-use Rattle.arguments.specs.declared.Taken.{Taken}
-use Rattle.arguments.specs.declared.Taken.TheVariants.{Known, Unknown}
+use Rattle.shapes.specs.declared.Shape.{Shape}
 use Rattle.answers.specs.Shape.{call_place}
 use Rattle.answers.specs.Record.{write_answer}
 use Rattle.answers.specs.declared.record.WriteAnswer.{WriteAnswer}
@@ -28,10 +27,10 @@ record_put l place b r = write_answer b (record_written l place (basis_taken b) 
 unfoldable pub after_record : List ℕ → ℕ → GivenBasis → Record → List ℕ
 after_record l place b r = record_list l place (basis_taken b) r
 
-unfoldable pub shape_put : List ℕ → ℕ → GivenBasis → Taken → WriteAnswer
-shape_put l place b (Known s) = record_put l place b (shape s)
-shape_put l place b Unknown = record { refusal = unknown_kind; place = call_place; next = place; basis = b }
+unfoldable pub shape_put : List ℕ → ℕ → GivenBasis → Option Shape → WriteAnswer
+shape_put l place b (Some s) = record_put l place b (shape s)
+shape_put l place b None = record { refusal = unknown_kind; place = call_place; next = place; basis = b }
 
-unfoldable pub after_shape : List ℕ → ℕ → GivenBasis → Taken → List ℕ
-after_shape l place b (Known s) = after_record l place b (shape s)
-after_shape l place b Unknown = l
+unfoldable pub after_shape : List ℕ → ℕ → GivenBasis → Option Shape → List ℕ
+after_shape l place b (Some s) = after_record l place b (shape s)
+after_shape l place b None = l

@@ -3,21 +3,21 @@ ghost use Rattle.std.specs.Prelude.{◌≡◌};
 ghost use Rattle.answers.specs.Shape.{reached};
 ghost use Rattle.greystroke.specs.Shape.{column_asked};
 
-use answers::shape::{ColumnAnswer, column_answer};
-use arguments::{GivenClip, GivenShape, clip_of, line_of, unsigned};
+use answers::shape::ColumnAnswer;
+use arguments::{GivenClip, GivenShape, unsigned};
 
 // Only a line has columns.
+#[tactic(auto, unfolding(crate::specs::Shape::column_asked))]
 fn ask(w: u32, h: u32, clip: GivenClip, shape: GivenShape) -> last_column::Reach
     ensures { result ≡ column_asked w h clip shape }
 {
     let kind = shape.kind;
-    let numbers = shape.numbers;
     match kind {
         3 | 4 => last_column::last_column(
             unsigned(w),
             unsigned(h),
-            clip_of(clip),
-            line_of(kind == 3, numbers),
+            clip.into(),
+            shape.line(kind == 3),
         ),
         _ => last_column::Reach::Refused(4),
     }
@@ -33,5 +33,5 @@ pub extern "C" fn greystroke_last_column(
 ) -> ColumnAnswer
     ensures { result ≡ reached (column_asked w h clip shape) }
 {
-    column_answer(ask(w, h, clip, shape))
+    ask(w, h, clip, shape).into()
 }

@@ -8,16 +8,16 @@ ghost use Rattle.arguments.specs.Taken.{basis_taken};
 ghost use Rattle.answers.specs.Record.{read_answer};
 ghost use Rattle.answers.specs.List.{check_answer};
 
-use answers::list::{CheckAnswer, check_answer};
-use answers::record::{ReadAnswer, read_answer};
-use arguments::{GivenBasis, basis_of};
+use answers::list::CheckAnswer;
+use answers::record::ReadAnswer;
+use arguments::GivenBasis;
 
 // Reads the record at the front of some bytes.
 #[unsafe(no_mangle)]
 pub extern "C" fn greystroke_read_record(list: &[u8], basis: GivenBasis) -> ReadAnswer
     ensures { result ≡ read_answer (reading_of (basis_taken basis) list.now) }
 {
-    read_answer(records::read::read_record(list, basis_of(basis)))
+    records::read::read_record(list, basis.into()).into()
 }
 
 // Checks a whole list for a page of so many bytes in 256 lights.
@@ -26,7 +26,7 @@ pub extern "C" fn greystroke_check_list(list: &[u8], page: usize, lights: &[u16]
     ensures value { result ≡ check_answer (checked_of list.now page lights.now) }
     ensures touches_within { TouchesWithin (header_at list.now) (page_records list.now page lights.now) result.ceiling }
 {
-    check_answer(lists::check::check_list(list, page, lights))
+    lists::check::check_list(list, page, lights).into()
 }
 
 // Checks a whole list without a page.
@@ -35,5 +35,5 @@ pub extern "C" fn greystroke_check_without_page(list: &[u8]) -> CheckAnswer
     ensures value { result ≡ check_answer (checked_without_page list.now) }
     ensures touches_within { TouchesWithin (header_at list.now) (pageless_records list.now) result.ceiling }
 {
-    check_answer(lists::check::check_without_page(list))
+    lists::check::check_without_page(list).into()
 }

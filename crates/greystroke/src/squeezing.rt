@@ -6,7 +6,7 @@ ghost use Rattle.squeezed.specs.Squeeze.{squeeze_answer, squeeze_output};
 ghost use Rattle.squeezed.specs.Claim.{KeepsBy};
 ghost use Rattle.answers.specs.List.{squeeze_answered};
 
-use answers::list::{SqueezeAnswer, squeeze_answer};
+use answers::list::SqueezeAnswer;
 
 // Squeezes a list into an output.
 #[unsafe(no_mangle)]
@@ -15,5 +15,5 @@ pub extern "C" fn greystroke_squeeze_list(squeezed: &mut [u8], list: &[u8]) -> S
     ensures squeezed_after { squeezed.new ≡ squeeze_output squeezed.old (header_at list.now) (pageless_records list.now) }
     ensures keeps_by { KeepsBy list.now (squeeze_answer (length squeezed.old) (header_at list.now) (pageless_records list.now)) squeezed.new }
 {
-    squeeze_answer(squeeze::squeeze(squeezed, list))
+    squeeze::squeeze(squeezed, list).into()
 }

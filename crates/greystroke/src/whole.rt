@@ -3,7 +3,7 @@ ghost use Rattle.std.specs.Prelude.{◌≡◌};
 ghost use Rattle.drawing.specs.Claim.{Claim, list_outcome};
 ghost use Rattle.answers.specs.List.{list_answered};
 
-use answers::list::{ListAnswer, list_answer};
+use answers::list::ListAnswer;
 
 // Draws a list in 256 lights.
 #[unsafe(no_mangle)]
@@ -12,5 +12,5 @@ pub extern "C" fn greystroke_draw_list(page: &mut [u8], lights: &[u16], list: &[
     ensures claim { Claim lights.now list.now page.old
         (list_outcome lights.now list.now page.old) page.new }
 {
-    list_answer(drawing::draw_list(page, lights, list))
+    drawing::draw_list(page, lights, list).into()
 }

@@ -5,12 +5,13 @@ ghost use Rattle.arguments.specs.Taken.{clip_of, taken_of};
 ghost use Rattle.greystroke.specs.Writing.{header_of, header_put, record_put, after_record, shape_put, after_shape};
 
 use answers::record::{WriteAnswer, write_answer};
-use arguments::{GivenBasis, GivenClip, GivenShape, Taken, basis_of};
+use arguments::{GivenBasis, GivenClip, GivenShape};
 use format::Header;
-use shapes::{Record, Setting};
+use shapes::{Basis, Record, Setting};
 
 // Writes a header of a version, W and H to byte 0; held is the basis that the writer holds.
 #[unsafe(no_mangle)]
+#[tactic(auto, unfolding(crate::specs::Writing::header_put))]
 pub extern "C" fn greystroke_write_header(
     list: &mut [u8],
     place: usize,
@@ -21,8 +22,8 @@ pub extern "C" fn greystroke_write_header(
     ensures value { result ≡ header_put list.old place held (header_of basis background) }
     ensures list_after { list.new ≡ header_list list.old (header_of basis background) }
 {
-    let kept = basis_of(held);
-    let told = basis_of(basis);
+    let kept = Basis::from(held);
+    let told = Basis::from(basis);
     let header = Header {
         version: told.version,
         w: told.w,
@@ -34,11 +35,12 @@ pub extern "C" fn greystroke_write_header(
 }
 
 // Every record is written so.
+#[tactic(auto, unfolding(crate::specs::Writing::record_put, crate::specs::Writing::after_record))]
 fn write(list: &mut [u8], place: usize, basis: GivenBasis, rec: Record) -> WriteAnswer
     ensures value { result ≡ record_put list.old place basis rec }
     ensures list_after { list.new ≡ after_record list.old place basis rec }
 {
-    let kept = basis_of(basis);
+    let kept = Basis::from(basis);
     let written = records::write::write_record(list, place, kept.version, kept.w, kept.h, rec);
     write_answer(basis, written)
 }
@@ -67,8 +69,12 @@ pub extern "C" fn greystroke_write_clip(
     ensures value { result ≡ record_put list.old place basis (Record.Setting (Setting.Clip (clip_of clip))) }
     ensures list_after { list.new ≡ after_record list.old place basis (Record.Setting (Setting.Clip (clip_of clip))) }
 {
-    let kept = arguments::clip_of(clip);
-    write(list, place, basis, Record::Setting(Setting::Clip(kept)))
+    write(
+        list,
+        place,
+        basis,
+        Record::Setting(Setting::Clip(clip.into())),
+    )
 }
 
 // Writes a level to the place.
@@ -101,6 +107,7 @@ pub extern "C" fn greystroke_write_player(
 
 // Writes a shape to the place.
 #[unsafe(no_mangle)]
+#[tactic(auto, unfolding(crate::specs::Writing::shape_put, crate::specs::Writing::after_shape))]
 pub extern "C" fn greystroke_write_shape(
     list: &mut [u8],
     place: usize,
@@ -111,8 +118,8 @@ pub extern "C" fn greystroke_write_shape(
     ensures list_after { list.new ≡ after_shape list.old place basis (taken_of shape) }
 {
     match arguments::taken_of(shape) {
-        Taken::Known(known) => write(list, place, basis, Record::Shape(known)),
-        Taken::Unknown => WriteAnswer {
+        Some(known) => write(list, place, basis, Record::Shape(known)),
+        None => WriteAnswer {
             refusal: 4,
             place: 0,
             next: place,

@@ -1,10 +1,10 @@
 -- The touched columns of a line, which a walk takes, are those of the definition.
+use Rattle.std.specs.Prelude.{Some, None}
 use mathlib.Core.Bool.{Bool, true, false, true≢false, cond, ◌&&◌}
 use mathlib.Core.Path.{◌≡◌, refl, sym}
 use mathlib.Core.Logic.{◌⊎◌, inl, inr, ⊎_elim}
 use Prim.Native.Nat.{ℕ, zero, suc, ◌+◌, ◌-◌, ◌*◌, ◌≤◌, ◌<◌}
 use native.Mathlib.Omega.{arith}
-use lib.Dec.{ltb}
 use lib.IntN.{ℤ, pos}
 use borrow.Author.Tests.{eq-eqb, eqb-true, lt-ltb, le-ltb}
 use Rattle.numbers.specs.inner.Offset.{origin}
@@ -12,7 +12,7 @@ use Rattle.numbers.proofs.Integer.{Diff, above, below}
 use Rattle.numbers.proofs.Order.{lt_or_le}
 use Rattle.numbers.proofs.Sum.{sum_zero, sum-some}
 use Rattle.limits.specs.Limits.{size_refusal, clip_refusal, shape_refusal}
-use Rattle.limits.proofs.Limits.{tried_clear, tried-last}
+use Rattle.limits.proofs.Limits.{tried_clear}
 use Rattle.shapes.specs.declared.Clip.{Clip}
 use Rattle.shapes.specs.declared.Line.{Line}
 use Rattle.shapes.specs.declared.Shape.TheVariants.{Line as line}
@@ -26,17 +26,9 @@ use Rattle.columns.specs.inner.Columns.{Columns}
 use Rattle.columns.proofs.Strip.{InStrip, in_or_none, strip_small, column-along}
 use Rattle.touches.specs.Touch.{touched}
 use Rattle.last_column.specs.Column.{is_column, column_touches, last_of, last_column, column_refusal}
-use Rattle.last_column.specs.declared.Reach.TheVariants.{Last, Nothing}
 use Rattle.touches.specs.inner.View.{view_of}
 use Rattle.draw.proofs.Refusals.{view_lawful}
 use Rattle.touches.proofs.Touches.{touched_view}
-
--- the refusals of the parts, in order
-pub column_refusals : (w h : ℕ) (c : Clip) (n : Line)
-    → column_refusal w h c n
-    ≡ cond (ltb 0 (size_refusal w h)) (size_refusal w h) (cond (ltb 0 (clip_refusal w h c)) (clip_refusal w h c) (shape_refusal (line n)))
-unfolding column_refusal
-column_refusals w h c n = rw (tried-last (shape_refusal (line n)))
 
 -- no page is lent: one of just W-as-H bytes would do
 pub column-lawful : (w h : ℕ) (c : Clip) (n : Line) → column_refusal w h c n ≡ 0 → Lawful (view_of w h c) (h * w) × (shape_refusal (line n) ≡ 0)
@@ -48,17 +40,17 @@ column-lawful w h c n z =
 
 -- ---- the last column that has touches
 module _ (t : ℕ → ℕ) where
-  pub last_none : (l : ℕ) → ((k : ℕ) → k < l → t k ≡ 0) → last_of l t ≡ Nothing
+  pub last_none : (l : ℕ) → ((k : ℕ) → k < l → t k ≡ 0) → last_of l t ≡ None
   unfolding last_of
   last_none zero h = refl
   last_none (suc l) h = rw (le-ltb 0 (t l) (omega (arith, h l (omega arith)))) (last_none l (λ k b. h k (omega arith)))
 
-  pub last_some : (l i : ℕ) → i < l → 0 < t i → ((k : ℕ) → i < k → k < l → t k ≡ 0) → last_of l t ≡ Last i
+  pub last_some : (l i : ℕ) → i < l → 0 < t i → ((k : ℕ) → i < k → k < l → t k ≡ 0) → last_of l t ≡ Some i
   unfolding last_of
   last_some zero i b p h = absurd (omega arith)
   last_some (suc l) i b p h = go (lt_or_le i l) (λ k. last_some l i k p (λ j a z. h j a (omega arith)))
     where
-      go : (i < l) ⊎ (l ≤ i) → (i < l → last_of l t ≡ Last i) → last_of (suc l) t ≡ Last i
+      go : (i < l) ⊎ (l ≤ i) → (i < l → last_of l t ≡ Some i) → last_of (suc l) t ≡ Some i
       go (inl k) before = rw (le-ltb 0 (t l) (omega (arith, h l k (omega arith)))) (before k)
       go (inr k) before = let e : i ≡ l = omega arith in rw (sym e, lt-ltb 0 (t i) p) refl
 
@@ -107,11 +99,11 @@ module _ (w h : ℕ) (c : Clip) (n : Line) (f : Frame) (size p e : ℕ) (lawful 
       none x y true false e₁ e₂ = refl
       none x y false u e₁ e₂ = refl
 
-  pub none_last : e ≤ p → Nothing ≡ last_column w h c n
+  pub none_last : e ≤ p → None ≡ last_column w h c n
   unfolding last_column
   none_last none = sym (last_none (column_touches w h c n) _ (λ k _. no_touches k (λ z. absurd (omega arith))))
 
-  pub is_last : p < e → Last (e + (origin - 1) - f.x) ≡ last_column w h c n
+  pub is_last : p < e → Some (e + (origin - 1) - f.x) ≡ last_column w h c n
   unfolding last_column
   is_last some =
       let b = r.between some in

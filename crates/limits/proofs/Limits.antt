@@ -1,16 +1,9 @@
 -- The refusals of a shape by the offsets of its coordinates, and what a shape, a page and a clip without one have.
-use mathlib.Core.Path.{◌≡◌, refl, sym, ◌∙◌, ap, ap₂}
-use mathlib.Core.Bool.{Bool, true, false, not, cond, ◌&&◌, ◌||◌}
-use mathlib.Core.Logic.{◌⊎◌, inl, inr}
-use Prim.Native.Nat.{ℕ, zero, suc, ◌+◌, ◌^◌, ◌≤◌, ◌<◌}
-use native.Mathlib.Omega.{arith}
-use borrow.Author.Tests.{lt-ltb, le-ltb, eq-eqb, ne_eqb, not-false, ltb-false, leb-true}
-use lib.Dec.{T, ltb, leb, eqb}
-use lib.IntN.{ℤ}
+use Rattle.std.proofs.Common.{◌≡◌, refl, sym, ◌∙◌, ap, ap₂, Bool, true, false, not, cond, ◌&&◌, ◌||◌, ◌⊎◌, inl, inr, ℕ, zero, suc, ◌+◌, ◌^◌, ◌≤◌, ◌<◌, arith, lt-ltb, le-ltb, eq-eqb, ne_eqb, ltb-false, leb-true, T, ltb, leb, eqb, ℤ, w16, SFits, to_z, of_z, to_z-of_z}
+use borrow.Author.Tests.{not-false}
 use lib.Signed.{le_z, mag}
-use mir.Syntax.{Width, w16}
-use mir.Val.{SFits, hbits, to_z, of_z}
-use mir.Facts.{to_z-of_z}
+use mir.Syntax.{Width}
+use mir.Val.{hbits}
 use Rattle.numbers.specs.inner.Order.{dist}
 use Rattle.numbers.specs.Coordinate.{in_range}
 use Rattle.numbers.specs.inner.Offset.{offset_most, offset_of}

@@ -1,7 +1,5 @@
 -- The spans of a line by the offsets of its ends.
-use mathlib.Core.Path.{◌≡◌}
-use Prim.Native.Nat.{◌≤◌, ◌<◌}
-use native.Mathlib.Omega.{arith}
+use Rattle.std.proofs.Common.{◌≡◌, ◌≤◌, ◌<◌, arith}
 use Rattle.numbers.specs.inner.Order.{dist}
 use Rattle.numbers.specs.inner.Offset.{offset_of}
 use Rattle.numbers.proofs.Coordinate.{offset_dist}

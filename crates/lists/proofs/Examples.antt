@@ -1,10 +1,5 @@
 -- The list that the rules print, and its damaged copies, by computation.
-use mathlib.Core.Path.{◌≡◌, refl, ap}
-use mathlib.Core.Bool.{Bool, true, false}
-use mathlib.Core.List.{List, [], ◌∷◌, ◌++◌}
-use Prim.Native.Nat.{ℕ}
-use native.Mathlib.Omega.{arith}
-use lib.IntN.{pos, negsuc}
+use Rattle.std.proofs.Common.{◌≡◌, refl, ap, Bool, true, false, List, [], ◌∷◌, ◌++◌, ℕ, arith, pos, negsuc}
 use Rattle.lights.specs.Lights.{fit}
 use Rattle.shapes.specs.Span.{width, height}
 use Rattle.limits.specs.Limits.{basis_by, size_refusal, basis_refusal, off_size, player_refusal, refusal_within, off_range, refusals_of, on_one_line, record_refusal}

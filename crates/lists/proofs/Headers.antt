@@ -1,12 +1,6 @@
 -- What is known of a header in which no refusal is found, and where one that is refused is told.
-use mathlib.Core.Path.{◌≡◌, refl}
-use mathlib.Core.Bool.{Bool, true, false, not, cond}
-use mathlib.Core.List.{List, []}
-use Prim.Native.Nat.{ℕ, zero, suc, ◌≤◌, ◌<◌}
-use native.Mathlib.Omega.{arith}
-use borrow.Author.Tests.{lt-ltb, ltb-false, not-false}
-use lib.Dec.{ltb}
-use lib.ListN.{length, drop}
+use Rattle.std.proofs.Common.{◌≡◌, refl, Bool, true, false, not, cond, List, [], ℕ, zero, suc, ◌≤◌, ◌<◌, arith, lt-ltb, ltb-false, ltb, length, drop}
+use borrow.Author.Tests.{not-false}
 use Rattle.limits.specs.Limits.{first, basis_refusal}
 use Rattle.limits.proofs.Limits.{clear, tried_clear}
 use Rattle.format.specs.Format.{list_most, header_size, header_at, basis_of}

@@ -1,10 +1,5 @@
 -- The settings in force along a walk over lawful records.
-use mathlib.Core.Path.{◌≡◌}
-use mathlib.Core.Bool.{Bool, true, false, cond}
-use Prim.Native.Nat.{◌<◌}
-use native.Mathlib.Omega.{arith}
-use borrow.Author.Tests.{le-leb, ltb-false}
-use lib.Dec.{ltb, eqb}
+use Rattle.std.proofs.Common.{◌≡◌, Bool, true, false, cond, ◌<◌, arith, le-leb, ltb-false, ltb, eqb}
 use Rattle.limits.specs.Limits.{off_page, clip_refusal, player_refusal, record_refusal}
 use Rattle.limits.proofs.Limits.{clear}
 use Rattle.shapes.specs.declared.Basis.{Basis}

@@ -1,12 +1,6 @@
 -- The records of a list one after the other: the turns of its check.
-use mathlib.Core.Path.{◌≡◌, refl, sym, ◌∙◌, ap, ap₂}
-use mathlib.Core.List.{List}
-use Prim.Native.Nat.{ℕ, suc, pred, ◌+◌, ◌-◌, ◌*◌, ◌≤◌, ◌<◌}
-use native.Mathlib.Nat.{suc-pred-eq_of_pos, le_of_eq}
-use native.Mathlib.Omega.{arith}
-use borrow.Author.Tests.{lt-ltb, le-ltb, eq-eqb, ne_eqb}
-use lib.ListN.{length, get_or, take, drop, length-drop}
-use lib.Seq.{take_all, drop-drop, get_or-drop}
+use Rattle.std.proofs.Common.{◌≡◌, refl, sym, ◌∙◌, ap, ap₂, List, ℕ, suc, pred, ◌+◌, ◌-◌, ◌*◌, ◌≤◌, ◌<◌, le_of_eq, arith, lt-ltb, le-ltb, eq-eqb, ne_eqb, length, get_or, take, drop, length-drop, take_all, drop-drop, get_or-drop}
+use native.Mathlib.Nat.{suc-pred-eq_of_pos}
 use Rattle.numbers.specs.Sum.{total}
 use Rattle.std.specs.Prelude.{Result, Ok, Err}
 use Rattle.limits.specs.Limits.{clip_refusal}

@@ -1,10 +1,5 @@
 -- The records of an accepted list can be walked over.
-use mathlib.Core.Path.{◌≡◌, sym, ◌∙◌, ap, subst}
-use mathlib.Core.Bool.{Bool, not}
-use mathlib.Core.List.{List}
-use Prim.Native.Nat.{ℕ, ◌*◌, ◌≤◌}
-use borrow.Author.Tests.{ltb-false}
-use lib.Dec.{ltb}
+use Rattle.std.proofs.Common.{◌≡◌, sym, ◌∙◌, ap, subst, Bool, not, List, ℕ, ◌*◌, ◌≤◌, ltb-false, ltb}
 use Rattle.std.specs.Prelude.{Ok}
 use Rattle.lights.specs.Lights.{fit}
 use Rattle.lights.specs.inner.Fit.{Fit}

@@ -1,13 +1,6 @@
 -- The header and the records of an accepted list, written again one after the other, give its own bytes.
-use mathlib.Core.Path.{◌≡◌, refl, sym, ◌∙◌, ap, ap₂, subst}
-use mathlib.Core.Bool.{Bool, false, ◌&&◌}
-use mathlib.Core.List.{List, [], ◌∷◌, ◌++◌, append_assoc, append-nil}
-use Prim.Native.Nat.{ℕ, zero, suc, ◌+◌, ◌≤◌, ◌<◌}
-use native.Mathlib.Nat.{zero-add}
-use native.Mathlib.Omega.{arith}
-use borrow.Author.Tests.{eqb-true}
-use lib.ListN.{length, get_or, take, drop, length-append, length-drop, take-append-drop}
-use lib.Seq.{take_at, drop-append-add, drop-drop, drop-length, get_or-drop, length-take-le, take_all}
+use Rattle.std.proofs.Common.{◌≡◌, refl, sym, ◌∙◌, ap, ap₂, subst, Bool, false, ◌&&◌, List, [], ◌∷◌, ◌++◌, append_assoc, append-nil, ℕ, zero, suc, ◌+◌, ◌≤◌, ◌<◌, zero-add, arith, eqb-true, length, get_or, take, drop, length-append, length-drop, take-append-drop, take_at, drop-drop, get_or-drop, length-take-le, take_all}
+use lib.Seq.{drop-append-add, drop-length}
 use Rattle.numbers.specs.Coordinate.{bits_of, signed_of, word_of, bytes_of}
 use Rattle.numbers.proofs.Coordinate.{bits_signed, bytes_word}
 use Rattle.numbers.proofs.Order.{AllBelow, both_true}

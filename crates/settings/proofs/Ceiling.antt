@@ -1,9 +1,5 @@
 -- What a record adds to the ceiling of its list, and that this is no more than a page has.
-use mathlib.Core.Path.{◌≡◌, refl}
-use mathlib.Core.List.{List, ◌∷◌}
-use Prim.Native.Nat.{◌+◌, ◌-◌, ◌≤◌, min}
-use native.Mathlib.Nat.{mul-le-mul}
-use native.Mathlib.Omega.{arith}
+use Rattle.std.proofs.Common.{◌≡◌, refl, List, ◌∷◌, ◌+◌, ◌-◌, ◌≤◌, min, mul-le-mul, arith}
 use Rattle.numbers.specs.Sum.{total}
 use Rattle.numbers.proofs.Sum.{total_++}
 use Rattle.limits.specs.Limits.{clip_refusal, basis_refusal}

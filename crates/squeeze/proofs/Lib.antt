@@ -1,4 +1,3 @@
 -- Laws of squeezing a list into an output.
-pub mod Output
+pub mod Took
 pub mod Walk
-pub mod Answers

@@ -5,7 +5,7 @@ use mathlib.Core.Logic.{⊎_elim}
 use mathlib.Core.List.{List, [], ◌∷◌, ◌++◌, append_assoc}
 use Prim.Native.Nat.{ℕ, ◌+◌, ◌-◌, ◌≤◌, ◌<◌}
 use native.Mathlib.Omega.{arith}
-use lib.ListN.{length, get_or, set, take, drop, length-append, length-drop}
+use lib.ListN.{length, get_or, take, drop, length-append, length-drop}
 use Rattle.numbers.proofs.Order.{eq_or_ne}
 use Rattle.shapes.specs.declared.Basis.{Basis}
 use Rattle.shapes.specs.declared.Setting.{Setting}
@@ -24,9 +24,10 @@ use Rattle.lists.specs.List.{AllBytes}
 use Rattle.lists.proofs.WriteBack.{drop-bytes, record_again}
 use Rattle.squeezed.specs.Squeeze.{changes, kept_from, all_bytes}
 use Rattle.squeezed.specs.inner.Size.{size_of}
-use Rattle.squeeze.specs.inner.Walk.{kept_of, Squeezable, is_setting, Put}
+use Rattle.squeeze.specs.inner.Walk.{kept_of, is_setting}
+use Rattle.squeeze.specs.inner.Target.{Took, Joins}
+use Rattle.squeeze.proofs.Took.{took_none, took_is, took_then}
 use Rattle.squeezed.proofs.Sizes.{all_append}
-use Rattle.squeeze.proofs.Output.{put_none, put_byte, put_same, put_is, put_then}
 
 -- ---- one record
 
@@ -184,88 +185,52 @@ module _ {b : Basis} {place : ℕ} {list goal done : List ℕ} {before f : Setti
         squeezing_room =
             omega (arith, ap length goal_then, length-append (done ++ adds) (all_bytes (kept_from f (drawings_from f rest))), length-append done adds)
 
--- ---- its length, and its bytes in an output
+-- ---- a target that takes it
 
--- so far it has m bytes
-pub record Sized (b : Basis) (list : List ℕ) (place : ℕ) (before f : Settings) (m : ℕ) : Type 0 where
+-- so far the target s took the bytes done, and is now t
+pub record Taking {S : Type 0} (end_of most_of : S → ℕ) (Wrote : S → List ℕ → S → Type 0) (s : S) (b : Basis) (list : List ℕ) (place : ℕ) (before f : Settings) (t : S) : Type 0 where
   pub done : List ℕ
   pub walk : Squeezing b list (all_bytes (kept_of b list)) place before f done
-  pub size : m ≡ header_size + length done
+  pub took : Took end_of most_of Wrote s done t
 
-pub sized_start : (b : Basis) (list : List ℕ) → Walkable list b → Sized b list header_size (start b) (start b) header_size
-sized_start b list d = record { done = []; walk = squeezing_start b list d; size = refl }
+module _ {S : Type 0} {end_of most_of : S → ℕ} {Wrote : S → List ℕ → S → Type 0} {s : S} {b : Basis} {list : List ℕ} where
+  pub taking_start : Wrote s [] s → Walkable list b → Taking end_of most_of Wrote s b list header_size (start b) (start b) s
+  taking_start none d = record { done = []; walk = squeezing_start b list d; took = took_none s none }
 
--- so far they stand in the output l from byte 10 to the place end, and make it m
-pub record Filled (b : Basis) (list l : List ℕ) (place : ℕ) (before f : Settings) (end : ℕ) (m : List ℕ) : Type 0 where
-  pub done : List ℕ
-  pub walk : Squeezing b list (all_bytes (kept_of b list)) place before f done
-  pub put : Put done header_size l m end
-  pub room : header_size + size_of (kept_of b list) ≤ length l
+  module _ {place : ℕ} {before f : Settings} {t : S} (p : Taking end_of most_of Wrote s b list place before f t) where
+    pub taking_setting : {r : Record} {after : ℕ} {g : Settings} → (kind_in list place ≡ 0 → ⊥) → r ≡ record_in list place → after ≡ place + kind_size (kind_in list place) → is_setting (kind_in list place) ≡ true → g ≡ in_force f r
+        → Taking end_of most_of Wrote s b list after before g t
+    taking_setting some found past e next = record { done = p.done; walk = squeezing_setting p.walk some found past e next; took = p.took }
 
-pub filled-start : (b : Basis) (list l : List ℕ) → Squeezable list b (length l) → Filled b list l header_size (start b) (start b) header_size l
-filled-start b list l d = record { done = []; walk = squeezing_start b list d.0; put = put_none header_size l; room = d.1 }
+    module _ (room : end_of s + size_of (kept_of b list) ≤ most_of s) where
+      -- the end record, one byte
+      pub taking_end-room : length list ≤ place + 1 → end_of t + 1 ≤ most_of t
+      taking_end-room none = omega (arith, room, p.took.end, p.took.most, ap length (squeezing_end p.walk none), length-append p.done (0 ∷ []))
 
-module _ {b : Basis} {place : ℕ} {list : List ℕ} {before f : Settings} where
-  module _ {m : ℕ} (p : Sized b list place before f m) where
-    pub sized_end : length list ≤ place + 1 → m + 1 ≡ header_size + size_of (kept_of b list)
-    sized_end none = omega (arith, p.size, ap length (squeezing_end p.walk none), length-append p.done (0 ∷ []))
+      pub taking_end : Joins end_of most_of Wrote → length list ≤ place + 1 → {u : S} → Took end_of most_of Wrote t (0 ∷ []) u
+          → Took end_of most_of Wrote s (all_bytes (kept_of b list)) u
+      taking_end joins none q =
+          let goal = squeezing_end p.walk none in
+          took_is (sym goal) (took_then joins (omega (arith, room, ap length goal)) p.took q)
 
-    pub sized_setting : {r : Record} {after : ℕ} {g : Settings} → (kind_in list place ≡ 0 → ⊥) → r ≡ record_in list place → after ≡ place + kind_size (kind_in list place) → is_setting (kind_in list place) ≡ true → g ≡ in_force f r
-        → Sized b list after before g m
-    sized_setting some found past e next = record { done = p.done; walk = squeezing_setting p.walk some found past e next; size = p.size }
+      module _ {after : ℕ} (some : kind_in list place ≡ 0 → ⊥) (past : after ≡ place + kind_size (kind_in list place)) (e : is_setting (kind_in list place) ≡ false) (bytes : AllBytes list) where
+        -- the bytes of the shape, as they stand in the list
+        read : take (after - place) (drop place list) ≡ record_bytes (record_in list place)
+        read = squeezing_bytes p.walk some refl bytes (after - place) (omega arith)
 
-    -- a shape adds what the settings take that differ, and the size of its kind
-    module _ {n after : ℕ} (some : kind_in list place ≡ 0 → ⊥) (past : after ≡ place + kind_size (kind_in list place)) (e : is_setting (kind_in list place) ≡ false) (adds : n ≡ size_of (changes before f) + kind_size (kind_in list place)) where
-      added : n ≡ length (all_bytes (changes before f) ++ record_bytes (record_in list place))
-      added = omega (arith, adds, squeezing_size p.walk some refl, length-append (all_bytes (changes before f)) (record_bytes (record_in list place)))
+        pub taking_shape-room : end_of t + length (all_bytes (changes before f) ++ take (after - place) (drop place list)) ≤ most_of t
+        taking_shape-room =
+            let fits = squeezing_room p.walk some refl past e in
+            let same = ap (λ (bs : List ℕ). length (all_bytes (changes before f) ++ bs)) read in
+            omega (arith, room, p.took.end, p.took.most)
 
-      pub sized_room : m + n ≤ header_size + size_of (kept_of b list)
-      sized_room = omega (arith, added, p.size, squeezing_room p.walk some refl past e)
-
-      pub sized_shape : Sized b list after f f (m + n)
-      sized_shape =
-          record {
-            done = p.done ++ (all_bytes (changes before f) ++ record_bytes (record_in list place));
-            walk = squeezing_shape p.walk some refl past e;
-            size = omega (arith, added, p.size, length-append p.done (all_bytes (changes before f) ++ record_bytes (record_in list place)));
-          }
-
-  module _ {end : ℕ} {l m : List ℕ} (p : Filled b list l place before f end m) where
-    pub filled-room : length list ≤ place + 1 → end < length m
-    filled-room none =
-        let n = length-append p.done (0 ∷ []) in
-        let goal = ap length (squeezing_end p.walk none) in
-        omega (arith, p.room, p.put.behind, put_same (omega (arith, p.room)) p.put)
-
-    pub filled-end : length list ≤ place + 1 → Put (all_bytes (kept_of b list)) header_size l (set m end 0) (end + 1)
-    filled-end none =
-        let n = length-append p.done (0 ∷ []) in
-        let goal = squeezing_end p.walk none in
-        let long = ap length goal in
-        put_is (sym goal) (put_then (omega (arith, p.room)) p.put (put_byte end 0 m (filled-room none) refl))
-
-    pub filled_setting : {r : Record} {after : ℕ} {g : Settings} → (kind_in list place ≡ 0 → ⊥) → r ≡ record_in list place → after ≡ place + kind_size (kind_in list place) → is_setting (kind_in list place) ≡ true → g ≡ in_force f r
-        → Filled b list l after before g end m
-    filled_setting some found past e next =
-        record { done = p.done; walk = squeezing_setting p.walk some found past e next; put = p.put; room = p.room }
-
-    module _ {after : ℕ} (some : kind_in list place ≡ 0 → ⊥) (past : after ≡ place + kind_size (kind_in list place)) (e : is_setting (kind_in list place) ≡ false) (bytes : AllBytes list) where
-      -- the bytes of the shape, as they stand in the list
-      read : take (after - place) (drop place list) ≡ record_bytes (record_in list place)
-      read = squeezing_bytes p.walk some refl bytes (after - place) (omega arith)
-
-      pub shape-room : end + length (all_bytes (changes before f) ++ take (after - place) (drop place list)) ≤ length m
-      shape-room =
-          let fits = squeezing_room p.walk some refl past e in
-          let same = ap (λ (bs : List ℕ). length (all_bytes (changes before f) ++ bs)) read in
-          omega (arith, p.room, p.put.behind, put_same (omega (arith, p.room)) p.put)
-
-      pub filled-shape : {k : ℕ} {o : List ℕ} → Put (all_bytes (changes before f) ++ take (after - place) (drop place list)) end m o k → Filled b list l after f f k o
-      filled-shape adds =
-          let fits = squeezing_room p.walk some refl past e in
-          record {
-            done = p.done ++ (all_bytes (changes before f) ++ record_bytes (record_in list place));
-            walk = squeezing_shape p.walk some refl past e;
-            put = put_then (omega (arith, p.room)) p.put (put_is (ap (λ (bs : List ℕ). all_bytes (changes before f) ++ bs) read) adds);
-            room = p.room;
-          }
+        pub taking_shape : Joins end_of most_of Wrote → {u : S} → Took end_of most_of Wrote t (all_bytes (changes before f) ++ take (after - place) (drop place list)) u
+            → Taking end_of most_of Wrote s b list after f f u
+        taking_shape joins q =
+            let adds : List ℕ = all_bytes (changes before f) ++ record_bytes (record_in list place) in
+            let fits = squeezing_room p.walk some refl past e in
+            record {
+              done = p.done ++ adds;
+              walk = squeezing_shape p.walk some refl past e;
+              took = took_then joins (omega (arith, room, length-append p.done adds)) p.took (took_is (ap (λ (bs : List ℕ). all_bytes (changes before f) ++ bs) read) q);
+            }

@@ -1,50 +1,37 @@
 // Squeezes a list for storage: settings that change nothing go.
 #![tactic(auto)]
 
-mod kinds;
-mod put;
-mod size;
+mod kinds; // kinds.rt: what a walk asks of a kind
+mod put; // put.rt: the settings and the shapes of a squeezed list, put into a target
+mod source; // source.rt: an accepted list, and a walk that puts what is kept of it into a target
+mod target; // target.rt: what takes the bytes of a squeezed list
 
-ghost use Rattle.std.specs.Prelude.{◌≡◌, ◌+◌, ltb, length};
-ghost use Rattle.format.specs.Format.{header_size, header_at, basis_of};
+ghost use Rattle.std.specs.Prelude.{◌≡◌, length};
+ghost use Rattle.format.specs.Format.{header_at};
 ghost use Rattle.lists.specs.List.{pageless_records};
-ghost use Rattle.lists.specs.inner.Walk.{list_drawings, Walkable};
-ghost use Rattle.squeezed.specs.Squeeze.{squeezed, fitted, filled, squeeze_answer, squeeze_output};
-ghost use Rattle.squeezed.specs.inner.Size.{size_of};
-ghost use Rattle.squeeze.specs.inner.Walk.{kept_of};
+ghost use Rattle.squeezed.specs.Squeeze.{fitted, filled, squeeze_answer, squeeze_output};
 ghost use Rattle.squeezed.specs.Claim.{KeepsBy};
+ghost use Rattle.squeeze.specs.inner.Source.{squeezed_source};
 
-use format::Header;
+use crate::source::Source;
+use crate::target::Output;
 use lists::check::Checked;
-use shapes::Basis;
 use squeezed::Answer;
 
-// Whether n bytes are too few for what a list is squeezed to. That is never longer than the list, so that it is measured only for less.
-fn too_few(n: usize, list: &[u8], basis: Basis) -> bool
-    requires { Walkable list.now basis }
-    ensures { result ≡ ltb n (header_size + size_of (kept_of basis list.now)) }
-{
-    if list.len() <= n {
-        return false;
-    }
-    n < size::squeezed_size(list, basis)
-}
-
 // Squeezes an accepted list.
-fn squeeze_accepted(out: &mut [u8], list: &[u8], header: Header) -> Answer
-    requires { Walkable list.now (basis_of header) }
-    ensures value { result ≡ fitted (length out.old) (squeezed header (list_drawings (basis_of header) list.now)) }
-    ensures out_after { out.new ≡ filled out.old (squeezed header (list_drawings (basis_of header) list.now)) }
+fn squeeze_accepted(out: &mut [u8], source: Source) -> Answer
+    ensures value { result ≡ fitted (length out.old) (squeezed_source source.entry) }
+    ensures out_after { out.new ≡ filled out.old (squeezed_source source.entry) }
 {
-    let basis = format::basis_of(header);
-    if too_few(out.len(), list, basis) {
+    if source.overflows(out.len()) {
         return Answer::Refused {
             refusal: 22,
             place: 0,
         };
     }
-    records::write::write_header(out, 0, header.version, header.w, header.h, header);
-    Answer::Squeezed(put::put_records(out, list, basis))
+    let mut output = Output { out, end: 0 };
+    source.put_into(&mut output);
+    Answer::Squeezed(output.end)
 }
 
 // Squeezes a list into an output, or refuses it and leaves the output as it was.
@@ -56,6 +43,6 @@ pub fn squeeze(out: &mut [u8], list: &[u8]) -> Answer
     let checked = lists::check::check_without_page(list);
     match checked {
         Checked::Refused { refusal, place } => Answer::Refused { refusal, place },
-        Checked::Accepted { header, ceiling: _ } => squeeze_accepted(out, list, header),
+        Checked::Accepted { header, ceiling: _ } => squeeze_accepted(out, Source { list, header }),
     }
 }

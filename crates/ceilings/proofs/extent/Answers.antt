@@ -1,7 +1,5 @@
 -- The greatest and the smallest are coordinates too, and so locals give them back.
-use Rattle.std.proofs.Common.{rules, arith}
-use mir.Syntax.{w16}
-use mir.Val.{SFits}
+use Rattle.std.proofs.Common.{rules, arith, w16, SFits}
 use Rattle.ceilings.proofs.Coordinates.{coordinates}
 use Rattle.ceilings.proofs.extent.Goals as goal
 

@@ -1,8 +1,6 @@
 -- The product of width and height, each of 16 bits.
-use Rattle.std.proofs.Common.{rules}
 use Rattle.std.proofs.lemmas.Int.{to_z-of_z}
-use mir.Syntax.{w16}
-use mir.Val.{SFits}
+use Rattle.std.proofs.Common.{rules, w16, SFits}
 use Rattle.ceilings.specs.Ceiling.{shape_ceiling}
 use Rattle.shapes.specs.Span.{width, height}
 use Rattle.ceilings.proofs.triangle_ceiling.Goals as goal

@@ -8,11 +8,11 @@ use Rattle.squeezed.proofs.Answers.{refused-claim, accepted-claim}
 use Rattle.squeezed.proofs.Keeps.{keeps_by}
 use Rattle.squeeze.proofs.squeeze.Goals as goal
 
-pub squeeze_accepted-requires : goal.squeeze_accepted-requires
-squeeze_accepted-requires c =
+pub invariant_of-squeeze_accepted : goal.invariant_of-squeeze_accepted
+invariant_of-squeeze_accepted c =
     let list : List ℕ = c.args.list.now in
     let found : AcceptedAs [] list c.in-Accepted.header = checked-accepted [] list _ c.in-Accepted.ceiling (sym c.check_without_page-checked.ensures ∙ c.in-Accepted.is) in
-    list_walkable found
+    record { walkable = list_walkable found }
 
 pub returns-in-Refused-clause-value : goal.returns-in-Refused-clause-value
 returns-in-Refused-clause-value c =

@@ -5,4 +5,4 @@ use Rattle.greystroke.proofs.Ceiling.{told_within}
 use Rattle.greystroke.proofs.list.greystroke_check_list.Goals as goal
 
 pub returns-clause-touches_within : goal.returns-clause-touches_within
-returns-clause-touches_within c = told_within _ c.args.list.now (c.check_answer.ensures ∙ ap check_answer c.check_list.ensures)
+returns-clause-touches_within c = told_within _ c.args.list.now (c.into.ensures ∙ ap check_answer c.check_list.ensures)

@@ -1,7 +1,6 @@
 -- Invariant: the answer is what the bytes from the place on give, with what was counted before (`Reached`). Each turn passes a record, so that
 -- what is left of the list falls.
-use Prim.Native.Nat.{suc, ◌-◌}
-use lib.ListN.{length, drop}
+use Rattle.std.proofs.Common.{suc, ◌-◌, length, drop}
 use Rattle.format.specs.Format.{header_size, basis_of}
 use Rattle.lists.specs.List.{checked_as, records_from}
 use Rattle.lists.proofs.Walk.{Reached}
