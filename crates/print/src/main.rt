@@ -3,22 +3,21 @@
 
 ghost use Rattle.std.specs.Prelude.{◌≡◌, ◌+◌, ◌*◌, ◌≤◌, length, take, replicate, OnOk, IfOk, IfSome};
 ghost use Rattle.std.specs.Io.KnownBytes.{Appends};
+ghost use Rattle.drawing.specs.Outcome.{numbered_outcome};
 ghost use Rattle.print.specs.Printed.{list_text, outcome_text};
 
-use drawing::{Answer, Outcome};
+use drawing::{Outcome, draw_list};
 use std::io;
 use std::io::{Read, Write};
 
 // Puts what is printed for what came of a list; hands back its length.
 fn put_outcome(out: &mut [u8], page: &[u8], outcome: Outcome) -> usize
     requires { (4 * length page.now + 240 ≤ length out.old) × (length page.now ≤ 65536) }
-    ensures { (take result out.new ≡ outcome_text outcome page.now) × (result ≤ 4 * length page.now + 240) }
+    ensures { (take result out.new ≡ outcome_text (numbered_outcome outcome) page.now) × (result ≤ 4 * length page.now + 240) }
 {
-    let answer = outcome.answer;
-    let touched = outcome.touched;
-    match answer {
-        Answer::Drawn { w, h } => text::put_page(out, page, w, h, touched),
-        Answer::Refused { refusal, place } => text::put_refusal(out, refusal, place),
+    match outcome.answer {
+        Ok(size) => text::put_page(out, page, size.w, size.h, outcome.touched),
+        Err(refused) => text::put_refusal(out, refused.refusal.into(), refused.place),
     }
 }
 
@@ -27,7 +26,7 @@ fn put_list(out: &mut [u8; 262384], page: &mut [u8; 65536], list: &[u8]) -> usiz
     ensures { (take result out.new ≡ list_text list.now page.old) × (result ≤ 262384) }
 {
     let lights = lights::code_lights();
-    let outcome = drawing::draw_list(page, &lights, list);
+    let outcome = draw_list(page, &lights, list);
     put_outcome(out, page, outcome)
 }
 
