@@ -1,127 +1,120 @@
-// How many pixels a shape may touch, and what trying a record tells: its refusal and what it counts towards the ceiling of its list.
+// How many pixels a shape may touch, and what trying a record tells: its refusal, or what it counts towards the ceiling of its list.
 #![tactic(auto)]
 
-ghost use Rattle.std.specs.Prelude.{◌≡◌, ◌*◌};
-ghost use Rattle.numbers.specs.inner.Order.{Span};
+ghost use Rattle.std.specs.Prelude.{◌≡◌, ◌*◌, ◌≤◌, ◌-ℤ◌, nat_abs};
 ghost use Rattle.limits.specs.Limits.{refusal_within, radius_room};
-ghost use Rattle.shapes.specs.Span.{greater, smaller, greatest, smallest};
+ghost use Rattle.limits.specs.Refusal.{numbered};
+ghost use Rattle.shapes.specs.Span.{greatest, smallest};
 ghost use Rattle.ceilings.specs.Ceiling.{shape_ceiling, clip_pixels};
-ghost use Rattle.ceilings.specs.inner.Tried.{tried_by, record_tried};
+ghost use Rattle.ceilings.specs.inner.Tried.{counted, tried_by, record_tried};
 
-use shapes::{Clip, Line, Record, Setting, Shape, Triangle};
+use limits::Refusal;
+use shapes::{Basis, Clip, Line, Record, Setting, Shape, Triangle};
 
-// The greater and the smaller of two coordinates, and how far three are apart.
-fn higher(a: i16, b: i16) -> i16
-    ensures { result ≡ greater a b }
+// How far three coordinates are apart.
+#[tactic(auto, using(crate::proofs::Coordinates::coordinates))]
+fn extent(a: i16, b: i16, c: i16) -> u16
+    ensures { result ≡ nat_abs (greatest a b c -ℤ smallest a b c) }
 {
-    if a <= b { b } else { a }
-}
-
-fn lower(a: i16, b: i16) -> i16
-    ensures { result ≡ smaller a b }
-{
-    if a <= b { a } else { b }
-}
-
-fn extent(a: i16, b: i16, c: i16) -> u64
-    ensures { Span (smallest a b c) (greatest a b c) result }
-{
-    numbers::span(lower(lower(a, b), c), higher(higher(a, b), c))
+    a.max(b).max(c).abs_diff(a.min(b).min(c))
 }
 
 // What a line, a disc or a ring, and a triangle count.
+#[tactic(auto, using(crate::proofs::Coordinates::coordinates), unfolding(crate::specs::Ceiling::shape_ceiling, shapes::specs::Span::longer, shapes::specs::Span::span_x, shapes::specs::Span::span_y))]
 fn line_ceiling(line: Line) -> u64
     ensures { result ≡ shape_ceiling (Shape.Line line) }
 {
-    let x = numbers::span(line.x0, line.x1);
-    let y = numbers::span(line.y0, line.y1);
-    3 * numbers::greater(x, y)
+    let x = line.x1.abs_diff(line.x0);
+    let y = line.y1.abs_diff(line.y0);
+    3 * u64::from(x.max(y))
 }
 
 fn circle_ceiling(radius: u16) -> u64
     ensures { result ≡ 4 * (radius * radius) }
 {
-    4 * numbers::product(radius as u64, radius as u64)
+    4 * numbers::product(u64::from(radius), u64::from(radius))
 }
 
+#[tactic(auto, using(crate::proofs::Coordinates::coordinates), unfolding(crate::specs::Ceiling::shape_ceiling, shapes::specs::Span::width, shapes::specs::Span::height))]
 fn triangle_ceiling(triangle: Triangle) -> u64
     ensures { result ≡ shape_ceiling (Shape.Triangle triangle) }
 {
     numbers::product(
-        extent(triangle.x0, triangle.x1, triangle.x2),
-        extent(triangle.y0, triangle.y1, triangle.y2),
+        u64::from(extent(triangle.x0, triangle.x1, triangle.x2)),
+        u64::from(extent(triangle.y0, triangle.y1, triangle.y2)),
     )
 }
 
 // The pixels of a clip.
+#[tactic(auto, unfolding(crate::specs::Ceiling::clip_pixels))]
 fn clip_pixels(clip: Clip) -> u64
     ensures { result ≡ clip_pixels clip }
 {
     numbers::product(
-        numbers::less(clip.x1 as u64, clip.x0 as u64),
-        numbers::less(clip.y1 as u64, clip.y0 as u64),
+        u64::from(clip.x1.saturating_sub(clip.x0)),
+        u64::from(clip.y1.saturating_sub(clip.y0)),
     )
 }
 
-// What trying a record tells: its refusal or 0, what it counts under a clip of so many pixels, and the pixels of the clip in force behind it.
+// What a record counts, and the pixels of the clip in force behind it.
 #[derive(Clone, Copy)]
-pub struct Tried {
-    pub refusal: u8,
+pub struct Counted {
     pub ceiling: u64,
     pub pixels: u64,
 }
 
-pub fn tried_as(refusal: u8, most: u64, pixels: u64) -> Tried
-    ensures { result ≡ tried_by refusal most pixels }
-{
-    Tried {
-        refusal,
-        ceiling: numbers::lesser(most, pixels),
-        pixels,
+impl Counted {
+    // Under a clip of so many pixels nothing counts more than these.
+    fn under(most: u64, pixels: u64) -> Counted
+        ensures { result ≡ counted most pixels }
+    {
+        Counted {
+            ceiling: most.min(pixels),
+            pixels,
+        }
     }
 }
 
-// Tries a shape of a record.
-fn try_shape(shape: Shape, pixels: u64) -> Tried
-    ensures { result ≡ tried_by (refusal_within (radius_room shape) shape) (shape_ceiling shape) pixels }
+#[tactic(auto, unfolding(crate::specs::Ceiling::shape_ceiling))]
+fn try_shape(shape: Shape, pixels: u64) -> Result<Counted, Refusal>
+    ensures { numbered result ≡ tried_by (refusal_within (radius_room shape) shape) (shape_ceiling shape) pixels }
 {
-    match shape {
-        Shape::Line(line) => tried_as(limits::line_refusal(line), line_ceiling(line), pixels),
+    let most = match shape {
+        Shape::Line(line) => {
+            limits::check_line(line)?;
+            line_ceiling(line)
+        }
         Shape::Disc(disc) => {
-            let refusal = limits::disc_refusal(disc, limits::circle_room(disc.big));
-            tried_as(refusal, circle_ceiling(disc.radius), pixels)
+            limits::check_disc(disc, limits::circle_room(disc.big))?;
+            circle_ceiling(disc.radius)
         }
         Shape::Ring(ring) => {
-            let refusal = limits::ring_refusal(ring, limits::circle_room(ring.big));
-            tried_as(refusal, circle_ceiling(ring.radius), pixels)
+            limits::check_ring(ring, limits::circle_room(ring.big))?;
+            circle_ceiling(ring.radius)
         }
         Shape::Triangle(triangle) => {
-            tried_as(
-                limits::triangle_refusal(triangle),
-                triangle_ceiling(triangle),
-                pixels,
-            )
+            limits::check_triangle(triangle)?;
+            triangle_ceiling(triangle)
         }
-    }
+    };
+    Ok(Counted::under(most, pixels))
 }
 
-// Tries a record. Its kind is told apart once for all that the check of a list asks; asked one by one, the check takes about twice as long.
-pub fn try_record(basis: shapes::Basis, rec: Record, pixels: u64) -> Tried
-    ensures { result ≡ record_tried basis pixels rec }
+// Its kind is told apart once for all that the check of a list asks; asked one by one, the check takes about twice as long.
+#[tactic(auto, unfolding(limits::specs::Limits::record_refusal, crate::specs::inner::Tried::record_counts, crate::specs::inner::Tried::pixels_after))]
+pub fn try_record(basis: Basis, rec: Record, pixels: u64) -> Result<Counted, Refusal>
+    ensures { numbered result ≡ record_tried basis pixels rec }
 {
     match rec {
-        Record::End => tried_as(0, 0, pixels),
-        Record::Setting(setting) => match setting {
-            Setting::Clip(clip) => {
-                tried_as(
-                    limits::clip_refusal(basis.w, basis.h, clip),
-                    0,
-                    clip_pixels(clip),
-                )
-            }
-            Setting::Level(_) => tried_as(0, 0, pixels),
-            Setting::Player(player) => tried_as(limits::player_refusal(player), 0, pixels),
-        },
+        Record::Setting(Setting::Clip(clip)) => {
+            limits::check_clip(basis.w, basis.h, clip)?;
+            Ok(Counted::under(0, clip_pixels(clip)))
+        }
+        Record::Setting(Setting::Player(player)) => {
+            limits::check_player(player)?;
+            Ok(Counted::under(0, pixels))
+        }
         Record::Shape(shape) => try_shape(shape, pixels),
+        Record::Setting(Setting::Level(_)) | Record::End => Ok(Counted::under(0, pixels)),
     }
 }

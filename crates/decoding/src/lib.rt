@@ -1,11 +1,11 @@
 // The header and the record whose bytes stand at the front of some bytes.
 #![tactic(auto)]
 
-ghost use Rattle.std.specs.Prelude.{◌≡◌, ◌+◌, ◌≤◌, length};
-ghost use Rattle.format.specs.Format.{header_size, word_at, coordinate_at, header_at, clip_at, line_at, disc_at, ring_at, big_disc_at, big_ring_at, triangle_at, record_at};
+ghost use Rattle.std.specs.Prelude.{◌≡◌, ◌+◌, ◌≤◌, cond, length};
+ghost use Rattle.format.specs.Format.{header_size, word_at, coordinate_at, header_at, clip_at, line_at, measure_at, disc_at, ring_at, triangle_at, record_at};
 ghost use Rattle.format.specs.inner.Record.{Whole};
 
-use format::Header;
+use format::{Header, Kind};
 use shapes::{Clip, Disc, Line, Record, Ring, Setting, Shape, Triangle};
 
 // The two bytes at a place, the low one first.
@@ -13,7 +13,7 @@ fn word_at(list: &[u8], place: usize) -> u16
     requires { place + 2 ≤ length list.now }
     ensures { result ≡ word_at list.now place }
 {
-    numbers::word(list[place], list[place + 1])
+    u16::from_le_bytes([list[place], list[place + 1]])
 }
 
 // The coordinate at a place.
@@ -21,7 +21,19 @@ fn coordinate_at(list: &[u8], place: usize) -> i16
     requires { place + 2 ≤ length list.now }
     ensures { result ≡ coordinate_at list.now place }
 {
-    numbers::signed(word_at(list, place))
+    word_at(list, place).cast_signed()
+}
+
+// The radius or the width at a place.
+fn measure_at(big: bool, list: &[u8], place: usize) -> u16
+    requires { place + cond big 2 1 ≤ length list.now }
+    ensures { result ≡ measure_at big list.now place }
+{
+    if big {
+        word_at(list, place)
+    } else {
+        u16::from(list[place])
+    }
 }
 
 fn clip_at(list: &[u8]) -> Clip
@@ -49,54 +61,28 @@ fn line_at(exact: bool, list: &[u8]) -> Line
     }
 }
 
-fn disc_at(list: &[u8]) -> Disc
-    requires { 6 ≤ length list.now }
-    ensures { result ≡ disc_at list.now }
+fn disc_at(big: bool, list: &[u8]) -> Disc
+    requires { cond big 7 6 ≤ length list.now }
+    ensures { result ≡ disc_at big list.now }
 {
     Disc {
         x: coordinate_at(list, 1),
         y: coordinate_at(list, 3),
-        radius: list[5] as u16,
-        big: false,
+        radius: measure_at(big, list, 5),
+        big,
     }
 }
 
-fn ring_at(list: &[u8]) -> Ring
-    requires { 7 ≤ length list.now }
-    ensures { result ≡ ring_at list.now }
+fn ring_at(big: bool, list: &[u8]) -> Ring
+    requires { cond big 9 7 ≤ length list.now }
+    ensures { result ≡ ring_at big list.now }
 {
     Ring {
         x: coordinate_at(list, 1),
         y: coordinate_at(list, 3),
-        radius: list[5] as u16,
-        width: list[6] as u16,
-        big: false,
-    }
-}
-
-// The disc and the ring of kinds 8 and 9, whose radius and width have two bytes each.
-fn big_disc_at(list: &[u8]) -> Disc
-    requires { 7 ≤ length list.now }
-    ensures { result ≡ big_disc_at list.now }
-{
-    Disc {
-        x: coordinate_at(list, 1),
-        y: coordinate_at(list, 3),
-        radius: word_at(list, 5),
-        big: true,
-    }
-}
-
-fn big_ring_at(list: &[u8]) -> Ring
-    requires { 9 ≤ length list.now }
-    ensures { result ≡ big_ring_at list.now }
-{
-    Ring {
-        x: coordinate_at(list, 1),
-        y: coordinate_at(list, 3),
-        radius: word_at(list, 5),
-        width: word_at(list, 7),
-        big: true,
+        radius: measure_at(big, list, 5),
+        width: measure_at(big, list, if big { 7 } else { 6 }),
+        big,
     }
 }
 
@@ -115,23 +101,23 @@ fn triangle_at(list: &[u8]) -> Triangle
 }
 
 // The record whose bytes stand at the front.
+#[tactic(auto, using(format::proofs::Bytes::unknown_kind_lem), unfolding(format::specs::Format::kind_size, format::specs::Format::decoded))]
 pub fn decode(list: &[u8]) -> Record
     requires { Whole list.now }
     ensures { result ≡ record_at list.now }
 {
-    let kind = list[0];
-    match kind {
-        1 => Record::Setting(Setting::Clip(clip_at(list))),
-        2 => Record::Setting(Setting::Level(list[1])),
-        3 => Record::Shape(Shape::Line(line_at(true, list))),
-        4 => Record::Shape(Shape::Line(line_at(false, list))),
-        5 => Record::Shape(Shape::Disc(disc_at(list))),
-        6 => Record::Shape(Shape::Ring(ring_at(list))),
-        7 => Record::Setting(Setting::Player(list[1])),
-        8 => Record::Shape(Shape::Disc(big_disc_at(list))),
-        9 => Record::Shape(Shape::Ring(big_ring_at(list))),
-        10 => Record::Shape(Shape::Triangle(triangle_at(list))),
-        _ => Record::End,
+    match Kind::try_from(list[0]).unwrap() {
+        Kind::End => Record::End,
+        Kind::Clip => Record::Setting(Setting::Clip(clip_at(list))),
+        Kind::Level => Record::Setting(Setting::Level(list[1])),
+        Kind::ExactLine => Record::Shape(Shape::Line(line_at(true, list))),
+        Kind::ApproximateLine => Record::Shape(Shape::Line(line_at(false, list))),
+        Kind::Disc => Record::Shape(Shape::Disc(disc_at(false, list))),
+        Kind::Ring => Record::Shape(Shape::Ring(ring_at(false, list))),
+        Kind::Player => Record::Setting(Setting::Player(list[1])),
+        Kind::BigDisc => Record::Shape(Shape::Disc(disc_at(true, list))),
+        Kind::BigRing => Record::Shape(Shape::Ring(ring_at(true, list))),
+        Kind::Triangle => Record::Shape(Shape::Triangle(triangle_at(list))),
     }
 }
 

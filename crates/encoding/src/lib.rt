@@ -1,82 +1,69 @@
 // The bytes of headers and records.
-#![tactic(auto)]
+#![tactic(auto, using(numbers::proofs::Standard::cast_unsigned_is), unfolding(format::specs::Format::kind_of, format::specs::Format::fields_of, format::specs::inner::Record::ShapeFits))]
 
-ghost use Rattle.std.specs.Prelude.{◌≡◌, [], ◌∷◌, ◌++◌, ◌≤◌};
+ghost use Rattle.std.specs.Prelude.{◌≡◌, ◌∷◌, ◌++◌, ◌≤◌, [], cond};
+ghost use Rattle.format.specs.Kind.{kind_number};
 ghost use Rattle.format.specs.Format.{words, coordinates, measures, header_bytes, record_bytes};
 ghost use Rattle.format.specs.inner.Record.{padded, CircleFits, ShapeFits, RecordFits};
 
-use format::{Header, RECORD_MOST, TRIANGLE_KIND, disc_kind, line_kind, ring_kind};
+use format::{Header, Kind, RECORD_MOST};
 use shapes::{Disc, Line, Record, Ring, Setting, Shape, Triangle};
 
-// A kind byte and six words.
-fn six_words(kind: u8, a: u16, b: u16, c: u16, d: u16, e: u16, f: u16) -> [u8; RECORD_MOST]
-    ensures { result ≡ kind ∷ words (a ∷ b ∷ c ∷ d ∷ e ∷ f ∷ []) }
+// A first byte and some words, the low byte of each first; zeros behind them.
+#[tactic(auto, using(crate::proofs::Padding::word_more))]
+fn words<const N: usize>(first: u8, numbers: [u16; N]) -> [u8; RECORD_MOST]
+    requires { N ≤ 6 }
+    ensures { result ≡ padded (first ∷ words numbers.entry) }
 {
-    let p = numbers::word_bytes(a);
-    let q = numbers::word_bytes(b);
-    let r = numbers::word_bytes(c);
-    let s = numbers::word_bytes(d);
-    let t = numbers::word_bytes(e);
-    let u = numbers::word_bytes(f);
-    [
-        kind, p.low, p.high, q.low, q.high, r.low, r.high, s.low, s.high, t.low, t.high, u.low,
-        u.high,
-    ]
-}
-
-// A kind byte and four words; the zeros behind them are two words more.
-fn four_words(kind: u8, a: u16, b: u16, c: u16, d: u16) -> [u8; RECORD_MOST]
-    ensures { result ≡ padded (kind ∷ words (a ∷ b ∷ c ∷ d ∷ [])) }
-{
-    six_words(kind, a, b, c, d, 0, 0)
-}
-
-// A kind byte, a centre, and a radius and a width of one byte each, which make one word.
-fn small_circle_bytes(kind: u8, x: i16, y: i16, radius: u16, width: u16) -> [u8; RECORD_MOST]
-    requires { (radius ≤ 255) × (width ≤ 255) }
-    ensures { result ≡ padded (kind ∷ coordinates (x ∷ y ∷ []) ++ radius ∷ width ∷ []) }
-{
-    four_words(
-        kind,
-        numbers::bits(x),
-        numbers::bits(y),
-        radius + 256 * width,
-        0,
-    )
-}
-
-// A kind byte, a centre, a radius and a width.
-fn circle_bytes(kind: u8, x: i16, y: i16, radius: u16, width: u16, big: bool) -> [u8; RECORD_MOST]
-    requires { CircleFits big radius width }
-    ensures { result ≡ padded (kind ∷ coordinates (x ∷ y ∷ []) ++ measures big (radius ∷ width ∷ [])) }
-{
-    if big {
-        return four_words(kind, numbers::bits(x), numbers::bits(y), radius, width);
+    let mut bytes = [0; RECORD_MOST];
+    bytes[0] = first;
+    for (i, number) in numbers.iter().enumerate() {
+        let [low, high] = number.to_le_bytes();
+        bytes[2 * i + 1] = low;
+        bytes[2 * i + 2] = high;
     }
-    small_circle_bytes(kind, x, y, radius, width)
+    bytes
 }
 
-// The bytes of a setting, of a shape and of a record, zeros behind them.
+// A first byte and some coordinates as words.
+fn coordinates<const N: usize>(first: u8, numbers: [i16; N]) -> [u8; RECORD_MOST]
+    requires { N ≤ 6 }
+    ensures { result ≡ padded (first ∷ coordinates numbers.entry) }
+{
+    words(first, numbers.map(i16::cast_unsigned))
+}
+
 fn setting_bytes(setting: Setting) -> [u8; RECORD_MOST]
     ensures { result ≡ padded (record_bytes (Record.Setting setting)) }
 {
     match setting {
-        Setting::Clip(clip) => four_words(1, clip.x0, clip.y0, clip.x1, clip.y1),
-        Setting::Level(level) => [2, level, 0, 0, 0, 0, 0, 0, 0, 0, 0, 0, 0],
-        Setting::Player(player) => [7, player, 0, 0, 0, 0, 0, 0, 0, 0, 0, 0, 0],
+        Setting::Clip(clip) => words(Kind::Clip.into(), [clip.x0, clip.y0, clip.x1, clip.y1]),
+        Setting::Level(level) => words(Kind::Level.into(), [level.into()]),
+        Setting::Player(player) => words(Kind::Player.into(), [player.into()]),
     }
 }
 
 fn line_bytes(line: Line) -> [u8; RECORD_MOST]
     ensures { result ≡ padded (record_bytes (Record.Shape (Shape.Line line))) }
 {
-    four_words(
-        line_kind(line.exact),
-        numbers::bits(line.x0),
-        numbers::bits(line.y0),
-        numbers::bits(line.x1),
-        numbers::bits(line.y1),
+    coordinates(
+        Kind::from(line).into(),
+        [line.x0, line.y0, line.x1, line.y1],
     )
+}
+
+// A disc is written as a ring of width 0 is. Where a radius and a width have one byte each, they make one word.
+fn circle_bytes(kind: Kind, ring: Ring) -> [u8; RECORD_MOST]
+    requires { CircleFits ring.big ring.radius ring.width }
+    ensures { result ≡ padded (kind_number kind ∷ coordinates (ring.x ∷ ring.y ∷ []) ++ measures ring.big (ring.radius ∷ ring.width ∷ [])) }
+{
+    let x = ring.x.cast_unsigned();
+    let y = ring.y.cast_unsigned();
+    if ring.big {
+        return words(kind.into(), [x, y, ring.radius, ring.width]);
+    }
+    let both = u16::from_le_bytes([ring.radius as u8, ring.width as u8]);
+    words(kind.into(), [x, y, both])
 }
 
 fn disc_bytes(disc: Disc) -> [u8; RECORD_MOST]
@@ -84,12 +71,14 @@ fn disc_bytes(disc: Disc) -> [u8; RECORD_MOST]
     ensures { result ≡ padded (record_bytes (Record.Shape (Shape.Disc disc))) }
 {
     circle_bytes(
-        disc_kind(disc.big),
-        disc.x,
-        disc.y,
-        disc.radius,
-        0,
-        disc.big,
+        Kind::from(disc),
+        Ring {
+            x: disc.x,
+            y: disc.y,
+            radius: disc.radius,
+            width: 0,
+            big: disc.big,
+        },
     )
 }
 
@@ -97,27 +86,22 @@ fn ring_bytes(ring: Ring) -> [u8; RECORD_MOST]
     requires { ShapeFits (Shape.Ring ring) }
     ensures { result ≡ padded (record_bytes (Record.Shape (Shape.Ring ring))) }
 {
-    circle_bytes(
-        ring_kind(ring.big),
-        ring.x,
-        ring.y,
-        ring.radius,
-        ring.width,
-        ring.big,
-    )
+    circle_bytes(Kind::from(ring), ring)
 }
 
 fn triangle_bytes(triangle: Triangle) -> [u8; RECORD_MOST]
     ensures { result ≡ padded (record_bytes (Record.Shape (Shape.Triangle triangle))) }
 {
-    six_words(
-        TRIANGLE_KIND,
-        numbers::bits(triangle.x0),
-        numbers::bits(triangle.y0),
-        numbers::bits(triangle.x1),
-        numbers::bits(triangle.y1),
-        numbers::bits(triangle.x2),
-        numbers::bits(triangle.y2),
+    coordinates(
+        Kind::Triangle.into(),
+        [
+            triangle.x0,
+            triangle.y0,
+            triangle.x1,
+            triangle.y1,
+            triangle.x2,
+            triangle.y2,
+        ],
     )
 }
 
@@ -133,12 +117,13 @@ fn shape_bytes(shape: Shape) -> [u8; RECORD_MOST]
     }
 }
 
+// The bytes of a record, zeros behind them.
 pub fn record_bytes(rec: Record) -> [u8; RECORD_MOST]
     requires { RecordFits rec }
     ensures { result ≡ padded (record_bytes rec) }
 {
     match rec {
-        Record::End => [0; RECORD_MOST],
+        Record::End => words(Kind::End.into(), []),
         Record::Setting(setting) => setting_bytes(setting),
         Record::Shape(shape) => shape_bytes(shape),
     }
@@ -148,13 +133,14 @@ pub fn record_bytes(rec: Record) -> [u8; RECORD_MOST]
 pub fn header_bytes(header: Header) -> [u8; RECORD_MOST]
     ensures { result ≡ padded (header_bytes header) }
 {
-    six_words(
+    words(
         b'I',
-        numbers::word(b'N', b'K'),
-        header.version,
-        header.w,
-        header.h,
-        header.background as u16,
-        0,
+        [
+            u16::from_le_bytes(*b"NK"),
+            header.version,
+            header.w,
+            header.h,
+            header.background.into(),
+        ],
     )
 }

@@ -44,7 +44,7 @@ record_size_lem (shape (ring g)) = of_ring g.big
 record_size_lem (shape (triangle t)) = refl
 
 -- kinds above 10 are unknown
-unknown_kind_lem : (k : ℕ) → 10 < k → kind_size k ≡ 0
+pub unknown_kind_lem : (k : ℕ) → 10 < k → kind_size k ≡ 0
 unfolding kind_size
 unknown_kind_lem k h =
     let other : (j : ℕ) → j ≤ 10 → eqb k j ≡ false = λ j i. ne_eqb k j (λ e. omega arith) in
@@ -70,12 +70,12 @@ unfolding kind_of decoded
 kind-found k s = each-kind (λ j. kind_of (decoded j s) ≡ j) (((((((((((tt, refl), refl), refl), refl), refl), refl), refl), refl), refl), refl), refl) k
 
 -- none is longer than the array
-pub size-most : (k : ℕ) → kind_size k ≤ record_most
+pub size_most : (k : ℕ) → kind_size k ≤ record_most
 unfolding kind_size
-size-most k = ⊎_elim (each-kind (λ j. kind_size j ≤ record_most) rows k) (λ h. omega arith) (lt_or_le 0 (kind_size k))
+size_most k = ⊎_elim (each-kind (λ j. kind_size j ≤ record_most) rows k) (λ h. omega arith) (lt_or_le 0 (kind_size k))
   where
     rows : AllBelow 11 (λ j. kind_size j ≤ record_most)
     rows = (((((((((((tt, omega arith), omega arith), omega arith), omega arith), omega arith), omega arith), omega arith), omega arith), omega arith), omega arith), omega arith)
 
 pub record_most_lem : (r : Record) → length (record_bytes r) ≤ record_most
-record_most_lem r = omega (arith, record_size_lem r, size-most (kind_of r))
+record_most_lem r = omega (arith, record_size_lem r, size_most (kind_of r))

@@ -45,17 +45,16 @@ abbrev pub line_at : Bool → List ℕ → Line
 line_at exact s =
     record { exact = exact; x0 = coordinate_at s 1; y0 = coordinate_at s 3; x1 = coordinate_at s 5; y1 = coordinate_at s 7 }
 
-abbrev pub disc_at : List ℕ → Disc
-disc_at s = record { x = coordinate_at s 1; y = coordinate_at s 3; radius = get_or s 5 0; big = false }
+-- a radius or a width: two bytes in a big disc or ring, and one in others
+abbrev pub measure_at : Bool → List ℕ → ℕ → ℕ
+measure_at big s i = cond big (word_at s i) (get_or s i 0)
 
-abbrev pub ring_at : List ℕ → Ring
-ring_at s = record { x = coordinate_at s 1; y = coordinate_at s 3; radius = get_or s 5 0; width = get_or s 6 0; big = false }
+abbrev pub disc_at : Bool → List ℕ → Disc
+disc_at big s = record { x = coordinate_at s 1; y = coordinate_at s 3; radius = measure_at big s 5; big = big }
 
-abbrev pub big_disc_at : List ℕ → Disc
-big_disc_at s = record { x = coordinate_at s 1; y = coordinate_at s 3; radius = word_at s 5; big = true }
-
-abbrev pub big_ring_at : List ℕ → Ring
-big_ring_at s = record { x = coordinate_at s 1; y = coordinate_at s 3; radius = word_at s 5; width = word_at s 7; big = true }
+abbrev pub ring_at : Bool → List ℕ → Ring
+ring_at big s =
+    record { x = coordinate_at s 1; y = coordinate_at s 3; radius = measure_at big s 5; width = measure_at big s (cond big 7 6); big = big }
 
 abbrev pub triangle_at : List ℕ → Triangle
 triangle_at s =
@@ -63,36 +62,36 @@ triangle_at s =
 
 -- ---- the kinds
 
--- a kind: its number, how many bytes a record has, the kind byte with them, and the record at the front of some bytes
-pub record Kind : Type 0 where
+-- a row for each kind: its number, how many bytes a record has, the kind byte with them, and the record at the front of some bytes
+pub record Row : Type 0 where
   pub number : ℕ
   pub size : ℕ
   pub found : List ℕ → Record
 
-abbrev kind : ℕ → ℕ → (List ℕ → Record) → Kind
-kind k n r = record { number = k; size = n; found = r }
+abbrev row : ℕ → ℕ → (List ℕ → Record) → Row
+row k n r = record { number = k; size = n; found = r }
 
-abbrev pub kinds : List Kind
+abbrev pub kinds : List Row
 kinds =
-    kind 0 1 (λ s. end)
-    ∷ kind 1 9 (λ s. setting (clip (clip_at s)))
-    ∷ kind 2 2 (λ s. setting (level (get_or s 1 0)))
-    ∷ kind 3 9 (λ s. shape (line (line_at true s)))
-    ∷ kind 4 9 (λ s. shape (line (line_at false s)))
-    ∷ kind 5 6 (λ s. shape (disc (disc_at s)))
-    ∷ kind 6 7 (λ s. shape (ring (ring_at s)))
-    ∷ kind 7 2 (λ s. setting (player (get_or s 1 0)))
-    ∷ kind 8 7 (λ s. shape (disc (big_disc_at s)))
-    ∷ kind 9 9 (λ s. shape (ring (big_ring_at s)))
-    ∷ kind 10 13 (λ s. shape (triangle (triangle_at s)))
+    row 0 1 (λ s. end)
+    ∷ row 1 9 (λ s. setting (clip (clip_at s)))
+    ∷ row 2 2 (λ s. setting (level (get_or s 1 0)))
+    ∷ row 3 9 (λ s. shape (line (line_at true s)))
+    ∷ row 4 9 (λ s. shape (line (line_at false s)))
+    ∷ row 5 6 (λ s. shape (disc (disc_at false s)))
+    ∷ row 6 7 (λ s. shape (ring (ring_at false s)))
+    ∷ row 7 2 (λ s. setting (player (get_or s 1 0)))
+    ∷ row 8 7 (λ s. shape (disc (disc_at true s)))
+    ∷ row 9 9 (λ s. shape (ring (ring_at true s)))
+    ∷ row 10 13 (λ s. shape (triangle (triangle_at s)))
     ∷ []
 
 -- the size and the record by the row of kind k; 0 and an end record where there is none
-abbrev pub size_in : List Kind → ℕ → ℕ
+abbrev pub size_in : List Row → ℕ → ℕ
 size_in [] k = 0
 size_in (r ∷ rs) k = cond (eqb k r.number) r.size (size_in rs k)
 
-abbrev pub found_in : List Kind → ℕ → List ℕ → Record
+abbrev pub found_in : List Row → ℕ → List ℕ → Record
 found_in [] k s = end
 found_in (r ∷ rs) k s = cond (eqb k r.number) (r.found s) (found_in rs k s)
 

@@ -18,7 +18,7 @@ use Rattle.numbers.proofs.Order.{lt_or_le, eq_or_ne, cond_le}
 use Rattle.numbers.proofs.Integer.{Diff, diff_le, le_diff}
 use Rattle.numbers.proofs.Coordinate.{InRange, in_range_lem, range_offset}
 use Rattle.limits.specs.Limits.{off_version, off_size, off_page, outside, same, off_range, refusals_of, radius_most, radius_room, size_refusal, basis_refusal, clip_refusal, refusal_within, shape_refusal}
-use Rattle.shapes.specs.inner.Offsets.{point_of, ends_of}
+use Rattle.shapes.specs.inner.Offsets.{point_of, outer, ends_of}
 use Rattle.shapes.specs.declared.Point.{Point}
 use Rattle.shapes.specs.declared.Ends.{Ends}
 use Rattle.shapes.specs.declared.Basis.{Basis}
@@ -29,10 +29,6 @@ use Rattle.shapes.specs.declared.Ring.{Ring}
 use Rattle.shapes.specs.declared.Triangle.{Triangle}
 use Rattle.shapes.specs.declared.Shape.{Shape}
 use Rattle.shapes.specs.declared.Shape.TheVariants.{Line as line, Disc as disc, Ring as ring, Triangle as triangle}
-
--- the disc around a ring
-abbrev pub outer : Ring → Disc
-outer g = record { x = g.x; y = g.y; radius = g.radius; big = g.big }
 
 -- ---- the first of some refusals is none
 
@@ -123,10 +119,11 @@ line_refusals l e h =
     go false false false false e₀ e₁ e₂ e₃ = rw (same_offset (in_of e₀) (in_of e₂), same_offset (in_of e₁) (in_of e₃))
 
 -- those of a disc
-pub disc_refusals : (m : ℕ) (d : Disc) (p : Point) → p ≡ point_of d.x d.y
-    → refusal_within m (disc d) ≡ cond (ltb offset_most p.x || ltb offset_most p.y) 7 (cond (eqb d.radius 0) 10 (cond (ltb m d.radius) 33 0))
+pub disc_refusals : (m : ℕ) (d : Disc)
+    → refusal_within m (disc d)
+    ≡ cond (ltb offset_most (offset_of d.x) || ltb offset_most (offset_of d.y)) 7 (cond (eqb d.radius 0) 10 (cond (ltb m d.radius) 33 0))
 unfolding refusal_within off_range refusals_of
-disc_refusals m d p h = rw (h, outside_offset d.x, outside_offset d.y)
+disc_refusals m d = rw (outside_offset d.x, outside_offset d.y)
 
 -- those of a ring: its disc, then its width
 pub ring_refusals : (m : ℕ) (g : Ring)

@@ -1,19 +1,23 @@
-// Which sizes, clips, players, shapes and records are lawful: the number of the first refusal of each, or 0.
+// Which sizes, clips, players, shapes and records are lawful, and the first refusal of each that is not.
 #![tactic(auto)]
+
+mod refusal; // refusal.rt: why something is refused
 
 ghost use Rattle.std.specs.Prelude.{◌≡◌, ◌≤◌};
 ghost use Rattle.numbers.specs.inner.Offset.{offset_most};
 ghost use Rattle.shapes.specs.inner.Offsets.{greatest_of, least_of, spread_of, farthest, straight};
 ghost use Rattle.limits.specs.Limits.{size_refusal, basis_refusal, clip_refusal, player_refusal, refusal_within, shape_refusal, circle_room, radius_room, record_refusal};
+ghost use Rattle.limits.specs.Refusal.{told};
 
 use numbers::OFFSET_MOST;
-use shapes::{
-    Basis, Clip, Corners, Disc, Line, Record, Ring, Setting, Shape, Triangle, corners_of, ends_of,
-    point_of,
-};
+pub use refusal::Refusal;
+use shapes::{Basis, Clip, Corners, Disc, Ends, Line, Record, Ring, Setting, Shape, Triangle};
 
 // The latest version of the format.
 pub const VERSION_MOST: u16 = 2;
+
+// The greatest width and height of a page.
+pub const SIDE_MOST: u16 = 1024;
 
 // The greatest radius, and the greatest that one byte of a record holds.
 pub const RADIUS_MOST: u16 = 1023;
@@ -30,13 +34,13 @@ pub const PLAYER_MOST: u8 = 7;
 fn greatest(a: u64, b: u64, c: u64) -> u64
     ensures { result ≡ greatest_of a b c }
 {
-    numbers::greater(numbers::greater(a, b), c)
+    a.max(b).max(c)
 }
 
 fn least(a: u64, b: u64, c: u64) -> u64
     ensures { result ≡ least_of a b c }
 {
-    numbers::lesser(numbers::lesser(a, b), c)
+    a.min(b).min(c)
 }
 
 // How far three offsets are apart.
@@ -46,139 +50,93 @@ fn spread(a: u64, b: u64, c: u64) -> u64
     greatest(a, b, c) - least(a, b, c)
 }
 
-// The refusal of W and H, 3, or 0.
-pub fn size_refusal(w: u16, h: u16) -> u8
-    ensures { result ≡ size_refusal w h }
+#[tactic(auto, using(std::proofs::lemmas::Bool::Decides::nat_tests), unfolding(crate::specs::Limits::size_refusal, crate::specs::Limits::off_size))]
+pub fn check_size(w: u16, h: u16) -> Result<(), Refusal>
+    ensures { told result ≡ size_refusal w h }
 {
-    if w < 1 {
-        return 3;
+    if w < 1 || SIDE_MOST < w || h < 1 || SIDE_MOST < h {
+        return Err(Refusal::Size);
     }
-    if 1024 < w {
-        return 3;
-    }
-    if h < 1 {
-        return 3;
-    }
-    if 1024 < h {
-        return 3;
-    }
-    0
+    Ok(())
 }
 
-// The first refusal of a basis, 2 or 3, or 0.
-pub fn basis_refusal(basis: Basis) -> u8
-    ensures { result ≡ basis_refusal basis }
+#[tactic(auto, using(std::proofs::lemmas::Bool::Decides::nat_tests), unfolding(crate::specs::Limits::basis_refusal))]
+pub fn check_basis(basis: Basis) -> Result<(), Refusal>
+    ensures { told result ≡ basis_refusal basis }
 {
-    if basis.version < 1 {
-        return 2;
+    if basis.version < 1 || VERSION_MOST < basis.version {
+        return Err(Refusal::Version);
     }
-    if VERSION_MOST < basis.version {
-        return 2;
-    }
-    size_refusal(basis.w, basis.h)
+    check_size(basis.w, basis.h)
 }
 
-// The refusal of a clip on a page of w by h, 8, or 0.
-pub fn clip_refusal(w: u16, h: u16, clip: Clip) -> u8
-    ensures { result ≡ clip_refusal w h clip }
+// Whether a clip is in order and on a page of w by h.
+#[tactic(auto, using(std::proofs::lemmas::Bool::Decides::nat_tests), unfolding(crate::specs::Limits::clip_refusal, crate::specs::Limits::off_page))]
+pub fn check_clip(w: u16, h: u16, clip: Clip) -> Result<(), Refusal>
+    ensures { told result ≡ clip_refusal w h clip }
 {
-    if clip.x1 < clip.x0 {
-        return 8;
+    if clip.x1 < clip.x0 || w < clip.x1 || clip.y1 < clip.y0 || h < clip.y1 {
+        return Err(Refusal::Clip);
     }
-    if w < clip.x1 {
-        return 8;
-    }
-    if clip.y1 < clip.y0 {
-        return 8;
-    }
-    if h < clip.y1 {
-        return 8;
-    }
-    0
+    Ok(())
 }
 
-// The refusal of a player, 31, or 0.
-pub fn player_refusal(player: u8) -> u8
-    ensures { result ≡ player_refusal player }
+#[tactic(auto, using(std::proofs::lemmas::Bool::Decides::nat_tests), unfolding(crate::specs::Limits::player_refusal))]
+pub fn check_player(player: u8) -> Result<(), Refusal>
+    ensures { told result ≡ player_refusal player }
 {
     if PLAYER_MOST < player {
-        return 31;
+        return Err(Refusal::Player);
     }
-    0
+    Ok(())
 }
 
-// The first refusal of a line, 7 or 9, or 0.
-pub fn line_refusal(line: Line) -> u8
-    ensures { result ≡ shape_refusal (Shape.Line line) }
+#[tactic(auto, using(std::proofs::lemmas::Bool::Decides::nat_tests, crate::proofs::Limits::line_refusals))]
+pub fn check_line(line: Line) -> Result<(), Refusal>
+    ensures { told result ≡ shape_refusal (Shape.Line line) }
 {
-    let e = ends_of(line);
-    if OFFSET_MOST < e.x0 {
-        return 7;
+    let e = Ends::from(line);
+    if OFFSET_MOST < e.x0 || OFFSET_MOST < e.y0 || OFFSET_MOST < e.x1 || OFFSET_MOST < e.y1 {
+        return Err(Refusal::Range);
     }
-    if OFFSET_MOST < e.y0 {
-        return 7;
+    if e.x0 == e.x1 && e.y0 == e.y1 {
+        return Err(Refusal::Coincident);
     }
-    if OFFSET_MOST < e.x1 {
-        return 7;
-    }
-    if OFFSET_MOST < e.y1 {
-        return 7;
-    }
-    if e.x0 != e.x1 {
-        return 0;
-    }
-    if e.y0 != e.y1 {
-        return 0;
-    }
-    9
+    Ok(())
 }
 
-// The first refusal of a disc whose radius may be at most `most`: 7, 10 or 33, or 0.
-pub fn disc_refusal(disc: Disc, most: u16) -> u8
-    ensures { result ≡ refusal_within most (Shape.Disc disc) }
+// A disc whose radius may be at most `most`.
+#[tactic(auto, using(std::proofs::lemmas::Bool::Decides::nat_tests, crate::proofs::Limits::disc_refusals))]
+pub fn check_disc(disc: Disc, most: u16) -> Result<(), Refusal>
+    ensures { told result ≡ refusal_within most (Shape.Disc disc) }
 {
-    let p = point_of(disc.x, disc.y);
-    if OFFSET_MOST < p.x {
-        return 7;
-    }
-    if OFFSET_MOST < p.y {
-        return 7;
+    let p = disc.centre();
+    if OFFSET_MOST < p.x || OFFSET_MOST < p.y {
+        return Err(Refusal::Range);
     }
     if disc.radius == 0 {
-        return 10;
+        return Err(Refusal::Radius);
     }
     if most < disc.radius {
-        return 33;
+        return Err(Refusal::Large);
     }
-    0
+    Ok(())
 }
 
-// The first refusal of a ring: that of its disc, then 11, or 0.
-pub fn ring_refusal(ring: Ring, most: u16) -> u8
-    ensures { result ≡ refusal_within most (Shape.Ring ring) }
+// A ring: its disc, then its width.
+#[tactic(auto, using(std::proofs::lemmas::Bool::Decides::nat_tests, crate::proofs::Limits::ring_refusals))]
+pub fn check_ring(ring: Ring, most: u16) -> Result<(), Refusal>
+    ensures { told result ≡ refusal_within most (Shape.Ring ring) }
 {
-    let outer = disc_refusal(
-        Disc {
-            x: ring.x,
-            y: ring.y,
-            radius: ring.radius,
-            big: ring.big,
-        },
-        most,
-    );
-    if 0 < outer {
-        return outer;
+    check_disc(ring.outer(), most)?;
+    if ring.width < 1 || ring.radius < ring.width {
+        return Err(Refusal::Width);
     }
-    if ring.width < 1 {
-        return 11;
-    }
-    if ring.radius < ring.width {
-        return 11;
-    }
-    0
+    Ok(())
 }
 
 // Whether three corners are on one straight line: both ways round, the products of neighbours add up to the same.
+#[tactic(auto, unfolding(shapes::specs::inner::Offsets::straight))]
 fn on_one_line(c: Corners) -> bool
     requires { farthest c ≤ offset_most }
     ensures { result ≡ straight c }
@@ -192,35 +150,35 @@ fn on_one_line(c: Corners) -> bool
     one_way == other_way
 }
 
-// The first refusal of a triangle: 7, 34 or 35, or 0.
-pub fn triangle_refusal(triangle: Triangle) -> u8
-    ensures { result ≡ shape_refusal (Shape.Triangle triangle) }
+#[tactic(auto, using(std::proofs::lemmas::Bool::Decides::nat_tests, crate::proofs::Triangles::triangle_refusals))]
+pub fn check_triangle(triangle: Triangle) -> Result<(), Refusal>
+    ensures { told result ≡ shape_refusal (Shape.Triangle triangle) }
 {
-    let c = corners_of(triangle);
-    if OFFSET_MOST < numbers::greater(greatest(c.x0, c.x1, c.x2), greatest(c.y0, c.y1, c.y2)) {
-        return 7;
+    let c = Corners::from(triangle);
+    if OFFSET_MOST < greatest(c.x0, c.x1, c.x2).max(greatest(c.y0, c.y1, c.y2)) {
+        return Err(Refusal::Range);
     }
-    let large = TRIANGLE_MOST
-        < numbers::greater(spread(c.x0, c.x1, c.x2), spread(c.y0, c.y1, c.y2));
+    let large = TRIANGLE_MOST < spread(c.x0, c.x1, c.x2).max(spread(c.y0, c.y1, c.y2));
     let line = on_one_line(c);
     if large {
-        return 34;
+        return Err(Refusal::Extent);
     }
     if line {
-        return 35;
+        return Err(Refusal::Straight);
     }
-    0
+    Ok(())
 }
 
-// The first refusal of a shape whose radius may be at most `most`: 7, 9, 10, 33, 11, 34 or 35, or 0.
-pub fn shape_refusal(shape: Shape, most: u16) -> u8
-    ensures { result ≡ refusal_within most shape }
+// A shape whose radius may be at most `most`.
+#[tactic(auto, using(crate::proofs::Limits::line_within, crate::proofs::Limits::triangle_within))]
+pub fn check_shape(shape: Shape, most: u16) -> Result<(), Refusal>
+    ensures { told result ≡ refusal_within most shape }
 {
     match shape {
-        Shape::Line(line) => line_refusal(line),
-        Shape::Disc(disc) => disc_refusal(disc, most),
-        Shape::Ring(ring) => ring_refusal(ring, most),
-        Shape::Triangle(triangle) => triangle_refusal(triangle),
+        Shape::Line(line) => check_line(line),
+        Shape::Disc(disc) => check_disc(disc, most),
+        Shape::Ring(ring) => check_ring(ring, most),
+        Shape::Triangle(triangle) => check_triangle(triangle),
     }
 }
 
@@ -243,17 +201,14 @@ fn radius_room(shape: Shape) -> u16
     }
 }
 
-// The first refusal of a record: 7, 8, 9, 10, 33, 11, 34, 35 or 31, or 0.
-pub fn record_refusal(basis: Basis, rec: Record) -> u8
-    ensures { result ≡ record_refusal basis rec }
+#[tactic(auto, using(std::proofs::lemmas::Bool::Decides::nat_tests), unfolding(crate::specs::Limits::record_refusal))]
+pub fn check_record(basis: Basis, rec: Record) -> Result<(), Refusal>
+    ensures { told result ≡ record_refusal basis rec }
 {
     match rec {
-        Record::End => 0,
-        Record::Setting(setting) => match setting {
-            Setting::Clip(clip) => clip_refusal(basis.w, basis.h, clip),
-            Setting::Level(_) => 0,
-            Setting::Player(player) => player_refusal(player),
-        },
-        Record::Shape(shape) => shape_refusal(shape, radius_room(shape)),
+        Record::Setting(Setting::Clip(clip)) => check_clip(basis.w, basis.h, clip),
+        Record::Setting(Setting::Player(player)) => check_player(player),
+        Record::Shape(shape) => check_shape(shape, radius_room(shape)),
+        Record::Setting(Setting::Level(_)) | Record::End => Ok(()),
     }
 }

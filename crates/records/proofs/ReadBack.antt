@@ -24,12 +24,13 @@ use Rattle.shapes.specs.declared.Record.{Record}
 use Rattle.shapes.specs.declared.Record.TheVariants.{End as end, Setting as setting, Shape as shape}
 use Rattle.format.specs.Format.{off_kind, kind_of, fields_of, record_bytes, coordinates, line_at, size_at, decoded, record_at}
 use Rattle.records.specs.Read.{read_refusal, reading_of, past_record}
-use Rattle.records.specs.Write.{put_at, record_written, record_list}
-use Rattle.records.specs.declared.read.Reading.TheVariants.{Found}
+use Rattle.records.specs.Write.{put_at, record_write_refusal, record_list}
+use Rattle.records.specs.declared.write.Cursor.{Cursor}
+use Rattle.std.specs.Prelude.{Ok}
 use Rattle.format.proofs.Bytes.{record_size_lem}
 use Rattle.limits.proofs.Limits.{LawfulLine, line_lawful, LawfulCircle, disc_lawful, ring_lawful}
 use Rattle.limits.proofs.Triangles.{CornersIn, triangle_lawful}
-use Rattle.records.proofs.Writes.{writable, record_done, written_refusal}
+use Rattle.records.proofs.Writes.{writable, record_done}
 
 -- ---- a record from its own bytes, whatever bytes follow
 
@@ -114,9 +115,9 @@ module _ (t : List ℕ) where
         let fits = le-ltb (length s) (size_at s) (omega arith) in
         simp (basis, ne_eqb (length s) 0 (λ e. omega arith), kind, fits, ap (record_refusal b) (record_back b r lawful) ∙ lawful)
 
-    pub read_bytes : reading_of b (record_bytes r ++ t) ≡ Found r
+    pub read_bytes : reading_of b (record_bytes r ++ t) ≡ Ok r
     unfolding reading_of
-    read_bytes = simp no_refusal (ap Found (record_back b r lawful))
+    read_bytes = simp no_refusal (ap (λ (x : Record). Ok x) (record_back b r lawful))
 
     -- the bytes past it are handed back: drop (its size) (its bytes ++ t) = t
     pub past_bytes : past_record b (record_bytes r ++ t) ≡ t
@@ -133,21 +134,19 @@ drop_put l place bs h =
 
 -- where the writer refuses nothing, the record is read at the place where it was written:
 -- drop place (the list written) = its bytes ++ rest, and a record reads back from its bytes
-pub read_written : (l : List ℕ) (place : ℕ) (b : Basis) (r : Record) → (record_written l place b r).refusal ≡ 0
-    → reading_of b (drop place (record_list l place b r)) ≡ Found r
-read_written l place b r e =
-    let f = written_refusal l place b r e in
-    let p = writable (length l) place b r f in
-    ap (λ (m : List ℕ). reading_of b (drop place m)) (sym (record_done l place b r f).1)
-    ∙ ap (reading_of b) (drop_put l place (record_bytes r) (omega (arith, p.room.inside)))
-    ∙ read_bytes (drop (place + length (record_bytes r)) l) b r p.basis p.kind p.lawful
+module _ (l : List ℕ) (c : Cursor) (r : Record) (none : record_write_refusal (length l) c r ≡ 0) where
+  after_place : drop c.place (record_list l c r) ≡ record_bytes r ++ drop (c.place + length (record_bytes r)) l
+  after_place =
+      let p = writable (length l) c r none in
+      ap (drop c.place) (record_done l c r none).1 ∙ drop_put l c.place (record_bytes r) (omega (arith, p.room.inside))
 
--- and the part past it is handed back: what stood behind it in the list
-pub past_written : (l : List ℕ) (place : ℕ) (b : Basis) (r : Record) → (record_written l place b r).refusal ≡ 0
-    → past_record b (drop place (record_list l place b r)) ≡ drop (place + length (record_bytes r)) l
-past_written l place b r e =
-    let f = written_refusal l place b r e in
-    let p = writable (length l) place b r f in
-    ap (λ (m : List ℕ). past_record b (drop place m)) (sym (record_done l place b r f).1)
-    ∙ ap (past_record b) (drop_put l place (record_bytes r) (omega (arith, p.room.inside)))
-    ∙ past_bytes (drop (place + length (record_bytes r)) l) b r p.basis p.kind p.lawful
+  pub read_written : reading_of c.basis (drop c.place (record_list l c r)) ≡ Ok r
+  read_written =
+      let p = writable (length l) c r none in
+      ap (reading_of c.basis) after_place ∙ read_bytes (drop (c.place + length (record_bytes r)) l) c.basis r p.basis p.kind p.lawful
+
+  -- and the part past it is handed back: what stood behind it in the list
+  pub past_written : past_record c.basis (drop c.place (record_list l c r)) ≡ drop (c.place + length (record_bytes r)) l
+  past_written =
+      let p = writable (length l) c r none in
+      ap (past_record c.basis) after_place ∙ past_bytes (drop (c.place + length (record_bytes r)) l) c.basis r p.basis p.kind p.lawful

@@ -1,9 +1,9 @@
 -- The two outcomes of a write, and what is known of a record that was written.
-use mathlib.Core.Path.{◌≡◌, refl, sym, ◌∙◌, ap}
-use mathlib.Core.Bool.{false, cond, ◌||◌}
+use mathlib.Core.Path.{◌≡◌, refl, ◌∙◌, ap}
+use mathlib.Core.Bool.{false, ◌||◌}
 use mathlib.Core.Logic.{◌⊎◌, inl, inr}
 use mathlib.Core.List.{List, ◌++◌}
-use Prim.Native.Nat.{ℕ, zero, suc, ◌+◌, ◌-◌, ◌≤◌, ◌<◌, min}
+use Prim.Native.Nat.{ℕ, ◌+◌, ◌-◌, ◌≤◌, ◌<◌, min}
 use native.Mathlib.Omega.{arith}
 use borrow.Author.Tests.{lt-ltb, le-ltb, ltb-false}
 use lib.Dec.{ltb}
@@ -11,39 +11,42 @@ use lib.ListN.{length, take, drop, replicate, length-append, length-drop}
 use lib.Seq.{paste, take-append_seam, length-take-le}
 use Rattle.numbers.proofs.Order.{lt_or_le}
 use Rattle.limits.specs.Limits.{basis_refusal, record_refusal}
-use Rattle.shapes.specs.declared.Basis.{Basis}
 use Rattle.shapes.specs.declared.Record.{Record}
 use Rattle.format.specs.Format.{list_most, header_size, basis_of, off_kind, kind_of, header_bytes, record_bytes}
 use Rattle.format.specs.inner.Record.{record_most, padded}
-use Rattle.records.specs.Write.{put_at, too_few, header_write_refusal, record_write_refusal, written_as, header_written, header_list, record_written, record_list}
+use Rattle.records.specs.Write.{put_at, too_few, header_write_refusal, record_write_refusal, behind_header, behind_record, header_written, header_list, record_written, record_list}
 use Rattle.format.specs.declared.Header.{Header}
-use Rattle.records.specs.declared.write.Written.{Written}
+use Rattle.records.specs.declared.write.Cursor.{Cursor}
+use Rattle.std.specs.Prelude.{Ok}
 use Rattle.limits.proofs.Limits.{clear, tried_clear, or_clear}
 
 -- the first bytes of an array put into a list
 pub put_padded : (l : List ℕ) (place : ℕ) (bs : List ℕ) → paste l place (padded bs) (length bs) ≡ put_at place bs l
 put_padded l place bs = rw (take-append_seam bs (replicate (record_most - length bs) 0))
 
-module _ (l : List ℕ) (place : ℕ) (b : Basis) where
-  module _ (d : Header) {f : ℕ} (e : header_write_refusal (length l) d ≡ f) where
-    pub header_refused : 0 < f → (written_as f place b ≡ header_written l place b d) × (l ≡ header_list l d)
-    unfolding header_written header_list
-    header_refused k = rw (e, lt-ltb 0 f k) (refl, refl)
+pub put_header : (l : List ℕ) (d : Header) → paste l 0 (padded (header_bytes d)) header_size ≡ put_at 0 (header_bytes d) l
+unfolding header_bytes
+put_header l d = put_padded l 0 (header_bytes d)
+
+module _ (l : List ℕ) where
+  pub header_refused : (d : Header) → 0 < header_write_refusal (length l) d → header_list l d ≡ l
+  unfolding header_list
+  header_refused d h = rw (lt-ltb 0 _ h)
 
   pub header_done : (d : Header) → header_write_refusal (length l) d ≡ 0
-      → (written_as 0 header_size (basis_of d) ≡ header_written l place b d) × (put_at 0 (header_bytes d) l ≡ header_list l d)
+      → (header_written l d ≡ Ok (behind_header d)) × (header_list l d ≡ put_at 0 (header_bytes d) l)
   unfolding header_written header_list
   header_done d e = rw e (refl, refl)
 
-  module _ (r : Record) {f : ℕ} (e : record_write_refusal (length l) place b r ≡ f) where
-    pub record_refused : 0 < f → (written_as f place b ≡ record_written l place b r) × (l ≡ record_list l place b r)
-    unfolding record_written record_list
-    record_refused k = rw (e, lt-ltb 0 f k) (refl, refl)
+  module _ (c : Cursor) (r : Record) where
+    pub record_refused : 0 < record_write_refusal (length l) c r → record_list l c r ≡ l
+    unfolding record_list
+    record_refused h = rw (lt-ltb 0 _ h)
 
-  pub record_done : (r : Record) → record_write_refusal (length l) place b r ≡ 0
-      → (written_as 0 (place + length (record_bytes r)) b ≡ record_written l place b r) × (put_at place (record_bytes r) l ≡ record_list l place b r)
-  unfolding record_written record_list
-  record_done r e = rw e (refl, refl)
+    pub record_done : record_write_refusal (length l) c r ≡ 0
+        → (record_written l c r ≡ Ok (behind_record c r)) × (record_list l c r ≡ put_at c.place (record_bytes r) l)
+    unfolding record_written record_list
+    record_done e = rw e (refl, refl)
 
 -- ---- room for what ends at a place
 pub record Room (n place size : ℕ) : Type 0 where
@@ -58,39 +61,30 @@ room n place size e =
     record { behind = ltb-false _ _ both.0; inside = omega arith; most = omega arith }
 
 -- ---- a record that is written
-pub record Writable (n place : ℕ) (b : Basis) (r : Record) : Type 0 where
-  pub basis : basis_refusal b ≡ 0
-  pub kind : off_kind b.version (kind_of r) ≡ false
-  pub lawful : record_refusal b r ≡ 0
-  pub room : Room n place (length (record_bytes r))
+pub record Writable (n : ℕ) (c : Cursor) (r : Record) : Type 0 where
+  pub basis : basis_refusal c.basis ≡ 0
+  pub kind : off_kind c.basis.version (kind_of r) ≡ false
+  pub lawful : record_refusal c.basis r ≡ 0
+  pub room : Room n c.place (length (record_bytes r))
 
-pub writable : (n place : ℕ) (b : Basis) (r : Record) → record_write_refusal n place b r ≡ 0 → Writable n place b r
+pub writable : (n : ℕ) (c : Cursor) (r : Record) → record_write_refusal n c r ≡ 0 → Writable n c r
 unfolding record_write_refusal
-writable n place b r e =
-    let basis = tried_clear (basis_refusal b) _ e in
-    let kind = clear (off_kind b.version (kind_of r)) 3 _ basis.1 in
-    let lawful = tried_clear (record_refusal b r) _ kind.1 in
-    let last = clear (ltb place header_size || too_few n (place + length (record_bytes r))) 21 0 lawful.1 in
-    record { basis = basis.0; kind = kind.0; lawful = lawful.0; room = room n place (length (record_bytes r)) last.0 }
-
--- a refusal of 0 says that nothing was refused
-pub written_refusal : (l : List ℕ) (place : ℕ) (b : Basis) (r : Record) → (record_written l place b r).refusal ≡ 0 → record_write_refusal (length l) place b r ≡ 0
-unfolding record_written
-written_refusal l place b r e = go (record_write_refusal (length l) place b r) e
-  where
-    go : (f : ℕ) → (cond (ltb 0 f) (written_as f place b) (written_as 0 (place + length (record_bytes r)) b)).refusal ≡ 0 → f ≡ 0
-    go zero k = refl
-    go (suc f) k = rw (lt-ltb 0 (suc f) (omega arith)) at k
+writable n c r e =
+    let basis = tried_clear (basis_refusal c.basis) _ e in
+    let kind = clear (off_kind c.basis.version (kind_of r)) 3 _ basis.1 in
+    let lawful = tried_clear (record_refusal c.basis r) _ kind.1 in
+    let last = clear (ltb c.place header_size || too_few n (c.place + length (record_bytes r))) 21 0 lawful.1 in
+    record { basis = basis.0; kind = kind.0; lawful = lawful.0; room = room n c.place (length (record_bytes r)) last.0 }
 
 -- and a record with room for it is not refused
-pub refusal-none : (n place : ℕ) (b : Basis) (r : Record) → Writable n place b r → record_write_refusal n place b r ≡ 0
+pub refusal-none : (n : ℕ) (c : Cursor) (r : Record) → Writable n c r → record_write_refusal n c r ≡ 0
 unfolding record_write_refusal
-refusal-none n place b r p =
-    simp (p.basis, p.kind, p.lawful, le-ltb place header_size p.room.behind, le-ltb (min n list_most) (place + length (record_bytes r)) (omega (arith, p.room.inside, p.room.most)))
+refusal-none n c r p =
+    simp (p.basis, p.kind, p.lawful, le-ltb c.place header_size p.room.behind, le-ltb (min n list_most) (c.place + length (record_bytes r)) (omega (arith, p.room.inside, p.room.most)))
 
-pub header-room : (n : ℕ) (d : Header) → header_write_refusal n d ≡ 0 → header_size ≤ n
+pub header_room : (n : ℕ) (d : Header) → header_write_refusal n d ≡ 0 → header_size ≤ n
 unfolding header_write_refusal
-header-room n d e =
+header_room n d e =
     let basis = tried_clear (basis_refusal (basis_of d)) _ e in
     let k : header_size ≤ min n list_most = ltb-false _ _ (clear (too_few n header_size) 21 0 basis.1).0 in
     omega arith
@@ -114,17 +108,17 @@ unfolding header_bytes
 header-length l d = go (lt_or_le 0 (header_write_refusal (length l) d))
   where
     go : (0 < header_write_refusal (length l) d) ⊎ (header_write_refusal (length l) d ≤ 0) → length (header_list l d) ≡ length l
-    go (inl h) = ap length (sym (header_refused l 0 (basis_of d) d refl h).1)
+    go (inl h) = ap length (header_refused l d h)
     go (inr h) =
         let none : header_write_refusal (length l) d ≡ 0 = omega arith in
-        let long = header-room (length l) d none in
-        ap length (sym (header_done l 0 (basis_of d) d none).1) ∙ put_length l 0 (header_bytes d) (omega arith)
+        let long = header_room (length l) d none in
+        ap length (header_done l d none).1 ∙ put_length l 0 (header_bytes d) (omega arith)
 
-pub record_length : (l : List ℕ) (place : ℕ) (b : Basis) (r : Record) → length (record_list l place b r) ≡ length l
-record_length l place b r = go (lt_or_le 0 (record_write_refusal (length l) place b r))
+pub record_length : (l : List ℕ) (c : Cursor) (r : Record) → length (record_list l c r) ≡ length l
+record_length l c r = go (lt_or_le 0 (record_write_refusal (length l) c r))
   where
-    go : (0 < record_write_refusal (length l) place b r) ⊎ (record_write_refusal (length l) place b r ≤ 0) → length (record_list l place b r) ≡ length l
-    go (inl k) = ap length (sym (record_refused l place b r refl k).1)
+    go : (0 < record_write_refusal (length l) c r) ⊎ (record_write_refusal (length l) c r ≤ 0) → length (record_list l c r) ≡ length l
+    go (inl k) = ap length (record_refused l c r k)
     go (inr k) =
-        let none : record_write_refusal (length l) place b r ≡ 0 = omega arith in
-        ap length (sym (record_done l place b r none).1) ∙ put_length l place (record_bytes r) (writable (length l) place b r none).room.inside
+        let none : record_write_refusal (length l) c r ≡ 0 = omega arith in
+        ap length (record_done l c r none).1 ∙ put_length l c.place (record_bytes r) (writable (length l) c r none).room.inside

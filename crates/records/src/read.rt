@@ -1,88 +1,64 @@
 // Reads one record from the front of some bytes.
 ghost use Rattle.std.specs.Prelude.{◌≡◌, ◌+◌, ◌≤◌, ltb, length, get_or, drop};
 ghost use Rattle.limits.specs.Limits.{basis_refusal};
+ghost use Rattle.limits.specs.Refusal.{told, numbered};
 ghost use Rattle.format.specs.Format.{kind_size, size_at};
 ghost use Rattle.format.specs.inner.Record.{Whole};
-ghost use Rattle.records.specs.inner.Front.{Opening, FrontTried};
-ghost use Rattle.records.specs.Read.{read_refusal, reading_of, past_record};
+ghost use Rattle.records.specs.inner.Front.{opening_refusal, front_tried};
+ghost use Rattle.records.specs.Read.{reading_of, past_record};
 
-use ceilings::Tried;
+use ceilings::Counted;
 use decoding::decode;
 use format::{RECORD_MOST, kind_size, last_kind};
+use limits::{Refusal, check_basis, check_record};
 use shapes::{Basis, Record};
-
-// What the reader answers: the record, or the number of the refusal.
-#[derive(Clone, Copy)]
-pub enum Reading {
-    Found(Record),
-    Refused(u8),
-}
 
 // Whether fewer bytes are left than a record of this kind has. Where the longest fits its size is not looked up, so that a walk waits for no
 // more than the kind.
+#[tactic(auto, using(std::proofs::lemmas::Bool::Decides::nat_tests, format::proofs::Bytes::size_most))]
 fn cut_short(left: usize, kind: u8) -> bool
     ensures { result ≡ ltb left (kind_size kind) }
 {
-    if RECORD_MOST <= left {
-        return false;
-    }
-    left < kind_size(kind)
+    left < RECORD_MOST && left < kind_size(kind)
 }
 
-// The first refusal that is tried before the fields of the record at the front are read, 5, 4 or 5, or 0.
-fn opening_refusal(list: &[u8], basis: Basis) -> u8
-    requires { basis_refusal basis ≡ 0 }
-    ensures { Opening basis list.now result }
+// Tries the front of some bytes, as far as it is tried before the fields of the record are read.
+#[tactic(auto, using(std::proofs::lemmas::Bool::Decides::nat_tests), unfolding(crate::specs::inner::Front::opening_refusal))]
+fn check_opening(list: &[u8], basis: Basis) -> Result<(), Refusal>
+    ensures { told result ≡ opening_refusal basis list.now }
 {
-    if list.len() == 0 {
-        return 5;
-    }
-    let kind = list[0];
-    if last_kind(basis.version) < kind {
-        return 4;
+    let Some(&kind) = list.first() else {
+        return Err(Refusal::Short);
+    };
+    if u8::from(last_kind(basis.version)) < kind {
+        return Err(Refusal::Kind);
     }
     if cut_short(list.len(), kind) {
-        return 5;
+        return Err(Refusal::Short);
     }
-    0
+    Ok(())
 }
 
 // Tries the record at the front under a clip of so many pixels, where the basis has no refusal: a walk over a list tries its basis once.
-pub fn try_front(list: &[u8], basis: Basis, pixels: u64) -> Tried
+#[tactic(auto, using(std::proofs::lemmas::Bool::Decides::nat_tests, crate::proofs::Refusals::read_refusal_by, crate::proofs::Refusals::opening_whole))]
+pub fn try_front(list: &[u8], basis: Basis, pixels: u64) -> Result<Counted, Refusal>
     requires { basis_refusal basis ≡ 0 }
-    ensures { FrontTried basis pixels list.now result }
+    ensures { numbered result ≡ front_tried basis pixels list.now }
 {
-    let refusal = opening_refusal(list, basis);
-    if 0 < refusal {
-        return ceilings::tried_as(refusal, 0, pixels);
-    }
+    check_opening(list, basis)?;
     ceilings::try_record(basis, decode(list), pixels)
 }
 
-// The first refusal of the record at the front, or 0.
-fn read_refusal(list: &[u8], basis: Basis) -> u8
-    ensures { result ≡ read_refusal basis list.now }
-{
-    let refusal = limits::basis_refusal(basis);
-    if 0 < refusal {
-        return refusal;
-    }
-    let opening = opening_refusal(list, basis);
-    if 0 < opening {
-        return opening;
-    }
-    limits::record_refusal(basis, decode(list))
-}
-
 // The record at the front.
-pub fn read_record(list: &[u8], basis: Basis) -> Reading
-    ensures { result ≡ reading_of basis list.now }
+#[tactic(auto, using(std::proofs::lemmas::Bool::Decides::nat_tests, crate::proofs::Refusals::read_refusal_by, crate::proofs::Refusals::opening_whole), unfolding(crate::specs::Read::reading_of))]
+pub fn read_record(list: &[u8], basis: Basis) -> Result<Record, Refusal>
+    ensures { numbered result ≡ reading_of basis list.now }
 {
-    let refusal = read_refusal(list, basis);
-    if 0 < refusal {
-        return Reading::Refused(refusal);
-    }
-    Reading::Found(decode(list))
+    check_basis(basis)?;
+    check_opening(list, basis)?;
+    let rec = decode(list);
+    check_record(basis, rec)?;
+    Ok(rec)
 }
 
 // The bytes past the record that stands whole at the front.
@@ -95,13 +71,14 @@ fn past(list: &[u8]) -> &[u8]
 }
 
 // The bytes past the record at the front, or all of them after a refusal.
+#[tactic(auto, using(std::proofs::lemmas::Bool::Decides::nat_tests, crate::proofs::Refusals::whole_read), unfolding(crate::specs::Read::reading_of, crate::specs::Read::past_record))]
 pub fn rest(list: &[u8], basis: Basis) -> &[u8]
     ensures { result.now ≡ past_record basis list.now }
 {
-    if 0 < read_refusal(list, basis) {
-        return list;
+    match read_record(list, basis) {
+        Ok(_) => past(list),
+        Err(_) => list,
     }
-    past(list)
 }
 
 // Where the next record begins: a walk over a list goes by the part past each record.

@@ -2,12 +2,12 @@
 #![tactic(auto)]
 
 ghost use Rattle.std.specs.Prelude.{◌≡◌};
-ghost use Rattle.shapes.specs.inner.Offsets.{point_of, ends_of, corners_of};
+ghost use Rattle.shapes.specs.inner.Offsets.{point_of, outer, ends_of, corners_of};
 
 // How many players there are.
 pub const PLAYERS: usize = 8;
 
-#[derive(Clone, Copy)]
+#[derive(Clone, Copy, PartialEq, Eq)]
 pub struct Line {
     pub exact: bool,
     pub x0: i16,
@@ -17,7 +17,7 @@ pub struct Line {
 }
 
 // A disc and a ring are big where a record has two bytes for the radius, and as many for the width: kinds 8 and 9, and not 5 and 6.
-#[derive(Clone, Copy)]
+#[derive(Clone, Copy, PartialEq, Eq)]
 pub struct Disc {
     pub x: i16,
     pub y: i16,
@@ -25,7 +25,7 @@ pub struct Disc {
     pub big: bool,
 }
 
-#[derive(Clone, Copy)]
+#[derive(Clone, Copy, PartialEq, Eq)]
 pub struct Ring {
     pub x: i16,
     pub y: i16,
@@ -34,7 +34,7 @@ pub struct Ring {
     pub big: bool,
 }
 
-#[derive(Clone, Copy)]
+#[derive(Clone, Copy, PartialEq, Eq)]
 pub struct Triangle {
     pub x0: i16,
     pub y0: i16,
@@ -44,7 +44,7 @@ pub struct Triangle {
     pub y2: i16,
 }
 
-#[derive(Clone, Copy)]
+#[derive(Clone, Copy, PartialEq, Eq)]
 pub enum Shape {
     Line(Line),
     Disc(Disc),
@@ -52,7 +52,7 @@ pub enum Shape {
     Triangle(Triangle),
 }
 
-#[derive(Clone, Copy)]
+#[derive(Clone, Copy, PartialEq, Eq)]
 pub struct Clip {
     pub x0: u16,
     pub y0: u16,
@@ -61,21 +61,21 @@ pub struct Clip {
 }
 
 // What a record is read and written against: the version of its list, W and H.
-#[derive(Clone, Copy)]
+#[derive(Clone, Copy, PartialEq, Eq)]
 pub struct Basis {
     pub version: u16,
     pub w: u16,
     pub h: u16,
 }
 
-#[derive(Clone, Copy)]
+#[derive(Clone, Copy, PartialEq, Eq)]
 pub enum Setting {
     Clip(Clip),
     Level(u8),
     Player(u8),
 }
 
-#[derive(Clone, Copy)]
+#[derive(Clone, Copy, PartialEq, Eq)]
 pub enum Record {
     End,
     Setting(Setting),
@@ -89,12 +89,42 @@ pub struct Point {
     pub y: u64,
 }
 
-pub fn point_of(x: i16, y: i16) -> Point
-    ensures { result ≡ point_of x y }
-{
-    Point {
-        x: numbers::offset(x),
-        y: numbers::offset(y),
+impl Point {
+    pub fn new(x: i16, y: i16) -> Point
+        ensures { result ≡ point_of x y }
+    {
+        Point {
+            x: numbers::offset(x),
+            y: numbers::offset(y),
+        }
+    }
+}
+
+impl Disc {
+    pub fn centre(self) -> Point
+        ensures { result ≡ point_of self.x self.y }
+    {
+        Point::new(self.x, self.y)
+    }
+}
+
+impl Ring {
+    pub fn centre(self) -> Point
+        ensures { result ≡ point_of self.x self.y }
+    {
+        Point::new(self.x, self.y)
+    }
+
+    // The disc around it.
+    pub fn outer(self) -> Disc
+        ensures { result ≡ outer self }
+    {
+        Disc {
+            x: self.x,
+            y: self.y,
+            radius: self.radius,
+            big: self.big,
+        }
     }
 }
 
@@ -107,14 +137,16 @@ pub struct Ends {
     pub y1: u64,
 }
 
-pub fn ends_of(line: Line) -> Ends
-    ensures { result ≡ ends_of line }
-{
-    Ends {
-        x0: numbers::offset(line.x0),
-        y0: numbers::offset(line.y0),
-        x1: numbers::offset(line.x1),
-        y1: numbers::offset(line.y1),
+impl From<Line> for Ends {
+    ghost from_gives = { λ line ends. ends ≡ ends_of line };
+
+    fn from(line: Line) -> Ends {
+        Ends {
+            x0: numbers::offset(line.x0),
+            y0: numbers::offset(line.y0),
+            x1: numbers::offset(line.x1),
+            y1: numbers::offset(line.y1),
+        }
     }
 }
 
@@ -129,15 +161,17 @@ pub struct Corners {
     pub y2: u64,
 }
 
-pub fn corners_of(triangle: Triangle) -> Corners
-    ensures { result ≡ corners_of triangle }
-{
-    Corners {
-        x0: numbers::offset(triangle.x0),
-        y0: numbers::offset(triangle.y0),
-        x1: numbers::offset(triangle.x1),
-        y1: numbers::offset(triangle.y1),
-        x2: numbers::offset(triangle.x2),
-        y2: numbers::offset(triangle.y2),
+impl From<Triangle> for Corners {
+    ghost from_gives = { λ triangle corners. corners ≡ corners_of triangle };
+
+    fn from(triangle: Triangle) -> Corners {
+        Corners {
+            x0: numbers::offset(triangle.x0),
+            y0: numbers::offset(triangle.y0),
+            x1: numbers::offset(triangle.x1),
+            y1: numbers::offset(triangle.y1),
+            x2: numbers::offset(triangle.x2),
+            y2: numbers::offset(triangle.y2),
+        }
     }
 }

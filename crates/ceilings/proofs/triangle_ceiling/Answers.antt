@@ -1,18 +1,22 @@
 -- The product of width and height, each of 16 bits.
-use mathlib.Core.Path.{◌∙◌, ap₂}
-use Prim.Native.Nat.{◌*◌}
-use Rattle.shapes.specs.Span.{width, height}
+use Rattle.std.proofs.Common.{rules}
+use Rattle.std.proofs.lemmas.Int.{to_z-of_z}
+use mir.Syntax.{w16}
+use mir.Val.{SFits}
 use Rattle.ceilings.specs.Ceiling.{shape_ceiling}
-use Rattle.limits.proofs.Span.{extent_kept}
+use Rattle.shapes.specs.Span.{width, height}
 use Rattle.ceilings.proofs.triangle_ceiling.Goals as goal
 
 pub returns : goal.returns
 unfolding shape_ceiling width height
 returns c =
     let t = c.args.triangle in
-    let known = c.struct_told-1.given in
-    let x = extent_kept {a = t.x0} {b = t.x1} {c = t.x2} (record { sfits = known.0.1 }) (record { sfits = known.1.1.0.1 })
-    (record { sfits = known.1.1.1.1.0.1 }) c.extent.ensures in
-    let y = extent_kept {a = t.y0} {b = t.y1} {c = t.y2} (record { sfits = known.1.0.1 }) (record { sfits = known.1.1.1.0.1 })
-    (record { sfits = known.1.1.1.1.1.0.1 }) c.extent-2.ensures in
-    c.product.ensures.is ∙ ap₂ ◌*◌ x.is y.is
+    let x0 : SFits w16 t.x0 = search rules in
+    let x1 : SFits w16 t.x1 = search rules in
+    let x2 : SFits w16 t.x2 = search rules in
+    let y0 : SFits w16 t.y0 = search rules in
+    let y1 : SFits w16 t.y1 = search rules in
+    let y2 : SFits w16 t.y2 = search rules in
+    let x = simp to_z-of_z at c.extent.ensures in
+    let y = simp to_z-of_z at c.extent-2.ensures in
+    cc (c.product.ensures.is)

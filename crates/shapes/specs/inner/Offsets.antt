@@ -2,6 +2,8 @@
 use Rattle.std.specs.Prelude.{Bool, ℕ, ◌+◌, ◌*◌, ◌-◌, min, max, eqb, ℤ}
 use Rattle.numbers.specs.inner.Offset.{offset_of}
 use Rattle.shapes.specs.declared.Line.{Line}
+use Rattle.shapes.specs.declared.Disc.{Disc}
+use Rattle.shapes.specs.declared.Ring.{Ring}
 use Rattle.shapes.specs.declared.Triangle.{Triangle}
 use Rattle.shapes.specs.declared.Point.{Point}
 use Rattle.shapes.specs.declared.Ends.{Ends}
@@ -9,6 +11,10 @@ use Rattle.shapes.specs.declared.Corners.{Corners}
 
 abbrev pub point_of : ℤ → ℤ → Point
 point_of x y = record { x = offset_of x; y = offset_of y }
+
+-- the disc around a ring
+abbrev pub outer : Ring → Disc
+outer g = record { x = g.x; y = g.y; radius = g.radius; big = g.big }
 
 abbrev pub ends_of : Line → Ends
 ends_of l = record { x0 = offset_of l.x0; y0 = offset_of l.y0; x1 = offset_of l.x1; y1 = offset_of l.y1 }

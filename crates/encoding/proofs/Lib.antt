@@ -1,0 +1,2 @@
+-- Laws of bytes with zeros behind them.
+pub mod Padding
