@@ -117,22 +117,24 @@ impl GivenShape {
     pub fn line(self, exact: bool) -> Line
         ensures { result ≡ line_of exact self.numbers }
     {
+        let [x0, y0, x1, y1, ..] = self.numbers;
         Line {
             exact,
-            x0: coordinate(self.numbers[0]),
-            y0: coordinate(self.numbers[1]),
-            x1: coordinate(self.numbers[2]),
-            y1: coordinate(self.numbers[3]),
+            x0: coordinate(x0),
+            y0: coordinate(y0),
+            x1: coordinate(x1),
+            y1: coordinate(y1),
         }
     }
 
     pub fn disc(self, big: bool) -> Disc
         ensures { result ≡ disc_of big self.numbers }
     {
+        let [x, y, radius, ..] = self.numbers;
         Disc {
-            x: coordinate(self.numbers[0]),
-            y: coordinate(self.numbers[1]),
-            radius: measure(self.numbers[2]),
+            x: coordinate(x),
+            y: coordinate(y),
+            radius: measure(radius),
             big,
         }
     }
@@ -140,11 +142,12 @@ impl GivenShape {
     pub fn ring(self, big: bool) -> Ring
         ensures { result ≡ ring_of big self.numbers }
     {
+        let [x, y, radius, width, ..] = self.numbers;
         Ring {
-            x: coordinate(self.numbers[0]),
-            y: coordinate(self.numbers[1]),
-            radius: measure(self.numbers[2]),
-            width: measure(self.numbers[3]),
+            x: coordinate(x),
+            y: coordinate(y),
+            radius: measure(radius),
+            width: measure(width),
             big,
         }
     }
@@ -152,13 +155,14 @@ impl GivenShape {
     pub fn triangle(self) -> Triangle
         ensures { result ≡ triangle_of self.numbers }
     {
+        let [x0, y0, x1, y1, x2, y2] = self.numbers;
         Triangle {
-            x0: coordinate(self.numbers[0]),
-            y0: coordinate(self.numbers[1]),
-            x1: coordinate(self.numbers[2]),
-            y1: coordinate(self.numbers[3]),
-            x2: coordinate(self.numbers[4]),
-            y2: coordinate(self.numbers[5]),
+            x0: coordinate(x0),
+            y0: coordinate(y0),
+            x1: coordinate(x1),
+            y1: coordinate(y1),
+            x2: coordinate(x2),
+            y2: coordinate(y2),
         }
     }
 }
