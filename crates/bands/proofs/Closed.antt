@@ -146,7 +146,7 @@ closed true l s i j p h = exact_closed l s i j p h
 closed false l s i j p h = by_excess l s (rest_of l s i) h (rest_lt l s i p) (j -ℤ pos (row_of l s i))
 
 -- ---- as the code computes them
-pub whole-greater : (l s : ℕ) → s ≤ l → exact_whole l s ≡ max (8 * (l * s)) 2
+pub whole-greater : (l s : ℕ) → s ≤ l → exact_whole l s ≡ max (8 * l * s) 2
 unfolding exact_whole
 whole-greater l zero h = omega arith
 whole-greater l (suc s) h = omega (arith, mul-le-mul {n₁ = 1} {m₁ = 1} {n₂ = l} {m₂ = suc s} (omega arith) (omega arith))

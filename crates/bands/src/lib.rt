@@ -25,12 +25,44 @@ pub struct Frame {
     pub y: u64,
 }
 
+impl Frame {
+    // The row of a pixel whose offset across the longer span is b.
+    pub fn row(self, b: u64) -> u64
+        requires { (self.y ≤ offset_most) × (b ≤ offset_most) }
+        ensures { (result ≡ row_at self b) × (result ≤ 2 * row_origin) }
+    {
+        if self.falls {
+            self.y + (ROW_ORIGIN - 1) - b
+        } else {
+            b + ROW_ORIGIN - self.y
+        }
+    }
+}
+
 // What the three rows of a column have.
 #[derive(Clone, Copy)]
 pub struct Rows {
     pub upper: u64,
     pub middle: u64,
     pub lower: u64,
+}
+
+impl Rows {
+    // What the row g − base above row q has.
+    pub fn at(self, g: u64, base: u64) -> u64
+        requires { g ≤ 2 * row_origin }
+        ensures { result ≡ at_row self (sub_ℕ g base) }
+    {
+        if g + 1 < base {
+            return 0;
+        }
+        match g + 1 - base {
+            0 => self.lower,
+            1 => self.middle,
+            2 => self.upper,
+            _ => 0,
+        }
+    }
 }
 
 // The row q and the rest r of a column.
@@ -79,7 +111,7 @@ fn rising_frame(steep: bool, e: shapes::Ends) -> Frame
 {
     Frame {
         l: e.x1 - e.x0,
-        s: numbers::distance(e.y0, e.y1),
+        s: e.y0.abs_diff(e.y1),
         steep,
         falls: e.y1 < e.y0,
         x: e.x0,
@@ -92,8 +124,8 @@ pub fn frame_of(line: shapes::Line) -> Frame
     requires { shape_refusal (asShape line) ≡ 0 }
     ensures { Framed line result }
 {
-    let e = shapes::ends_of(line);
-    let steep = numbers::distance(e.x0, e.x1) < numbers::distance(e.y0, e.y1);
+    let e = shapes::Ends::from(line);
+    let steep = e.x0.abs_diff(e.x1) < e.y0.abs_diff(e.y1);
     rising_frame(steep, ordered(exchanged(steep, e)))
 }
 
@@ -105,10 +137,10 @@ pub fn crossing_at(l: u64, s: u64, i: u64) -> Crossing
     if i == 0 {
         return Crossing { q: 0, r: l };
     }
-    let u = l + numbers::product(2 * s, i);
+    let u = l + 2 * s * i;
     Crossing {
         q: u / (2 * l),
-        r: numbers::remainder(u, 2 * l),
+        r: u % (2 * l),
     }
 }
 
@@ -118,13 +150,13 @@ pub fn column_reaching(l: u64, s: u64, rise: u64, from: u64, end: u64) -> u64
     requires { (l ≤ offset_most) × (s ≤ l) × (from ≤ end) × (end ≤ l) }
     ensures { Reaching l s rise from end result }
 {
-    if rise <= l + numbers::product(2 * s, from) {
+    if rise <= l + 2 * s * from {
         return from;
     }
-    if l + numbers::product(2 * s, end) < rise {
+    if l + 2 * s * end < rise {
         return end;
     }
-    (rise - l - 1) / (2 * s) + 1
+    (rise - l).div_ceil(2 * s)
 }
 
 // What the middle row of a column has whose upper row has nothing.
@@ -132,13 +164,11 @@ fn rise(exact: bool, s: u64, r: u64) -> u64
     requires { (s ≤ offset_most) × (r ≤ 2 * offset_most) }
     ensures { result ≡ rise_of exact s r }
 {
-    if exact {
-        if s == 0 {
-            return 1;
-        }
-        return 4 * numbers::product(s, r + s);
+    match (exact, s) {
+        (true, 0) => 1,
+        (true, _) => 4 * s * (r + s),
+        (false, _) => 2 * (r + s),
     }
-    2 * (r + s)
 }
 
 // What an outer row has that the band covers to the height t at one side of the column.
@@ -146,7 +176,7 @@ fn corner(exact: bool, t: u64) -> u64
     requires { t ≤ 2 * offset_most }
     ensures { result ≡ corner_of exact t }
 {
-    if exact { numbers::product(t, t) } else { t }
+    if exact { t * t } else { t }
 }
 
 // The rows of a column that the band crosses in two rows, t at most 0.
@@ -193,37 +223,5 @@ pub fn whole_of(exact: bool, l: u64, s: u64) -> u64
     requires { (l ≤ offset_most) × (s ≤ l) }
     ensures { result ≡ whole_of exact l s }
 {
-    if exact {
-        return numbers::greater(8 * numbers::product(l, s), 2);
-    }
-    4 * l
-}
-
-// What the row g − base above row q has.
-pub fn row_at(rows: Rows, g: u64, base: u64) -> u64
-    requires { g ≤ 2 * row_origin }
-    ensures { result ≡ at_row rows (sub_ℕ g base) }
-{
-    if g + 1 < base {
-        return 0;
-    }
-    let k = g + 1 - base;
-    match k {
-        0 => rows.lower,
-        1 => rows.middle,
-        2 => rows.upper,
-        _ => 0,
-    }
-}
-
-// The row, in the frame, of a pixel whose offset across the longer span is b.
-pub fn frame_row(f: Frame, b: u64) -> u64
-    requires { (f.y ≤ offset_most) × (b ≤ offset_most) }
-    ensures { (result ≡ row_at f b) × (result ≤ 2 * row_origin) }
-{
-    if f.falls {
-        f.y + (ROW_ORIGIN - 1) - b
-    } else {
-        b + ROW_ORIGIN - f.y
-    }
+    if exact { (8 * l * s).max(2) } else { 4 * l }
 }

@@ -11,7 +11,7 @@ use Rattle.blending.specs.Blend.{blended_light, blend}
 use Rattle.lights.specs.inner.Fit.{Rising}
 use Rattle.lights.specs.inner.Palette.{middle, lights_in, reach_of, Guess}
 use Rattle.blending.specs.inner.Search.{Between, AtMost, NextTwo}
-use Rattle.lights.proofs.Neighbours.{light_mono, middle-same, middle-rises}
+use Rattle.lights.proofs.Neighbours.{light_mono, middle-none, middle-past, middle-same, middle-rises}
 use Rattle.blending.proofs.Nearest.{nearest-code}
 use Rattle.blending.proofs.Blend.{weighted_le}
 use Rattle.lights.proofs.Guesses.{reach_most}
@@ -61,6 +61,16 @@ whole-between light x d a b some h =
     }
 
 -- ---- the blend
+
+-- a doubled light times d lies between the first middle and the last, and what it is over d does too
+pub amid : (p : List ℕ) (x d : ℕ) → 0 < d → x ≤ 131070 * d → Between (light_of p) x d 0 256
+amid p x d some most =
+    let light = light_of p in
+    let high : x < middle light 256 * d = rw (middle-past light 256 (omega arith)) (omega arith) in
+    record { low = rw (middle-none light) (omega arith); high = high }
+
+pub amid-whole : (p : List ℕ) (x : ℕ) → x ≤ 131070 * 512 → Between (light_of p) (x / 512) 1 0 256
+amid-whole p x most = amid p (x / 512) 1 (omega arith) (omega arith)
 
 module _ (p : List ℕ) (rising : Rising (light_of p)) where
   -- twice the blended light times a scale fits 64 bits

@@ -1,13 +1,10 @@
-// Blending in lights at even steps: blending the codes as they stand comes to the same.
-ghost use Rattle.std.specs.Prelude.{◌≡◌, ◌+◌, ◌-◌, ◌*◌, ◌^◌, ◌/◌, ◌≤◌, ◌<◌, length};
-ghost use Rattle.blending.specs.Blend.{blend};
+// Blending codes as they stand. In lights at even steps that comes to the same as blending in light.
+ghost use Rattle.std.specs.Prelude.{◌≡◌, ◌-◌, ◌*◌, ◌^◌, ◌/◌, ◌≤◌, ◌<◌};
 ghost use Rattle.blending.specs.CodeBlend.{code_blend};
 ghost use Rattle.blending.specs.inner.Quotient.{Coverage, Reciprocal, Dividend};
-ghost use Rattle.lights.specs.inner.Palette.{lights_in, Palette};
-ghost use Rattle.blending.specs.inner.Scale.{Scaled};
 
 // The reciprocal of the blends of codes over d.
-pub(crate) fn reciprocal(d: u64) -> u64
+pub fn reciprocal(d: u64) -> u64
     requires { (0 < d) × (d ≤ 2 ^ 30) }
     ensures { Reciprocal d result }
 {
@@ -46,7 +43,7 @@ fn dividend(u: u8, v: u8, n: u64, d: u64) -> u64
 }
 
 // Code v over code u at coverage n over d, by the reciprocal of d: up to 2^23 that is near enough.
-fn blend_code(u: u8, v: u8, n: u64, d: u64, m: u64) -> u8
+pub fn blend_code(u: u8, v: u8, n: u64, d: u64, m: u64) -> u8
     requires { Coverage n d × Reciprocal d m }
     ensures { result ≡ code_blend u v n d }
 {
@@ -58,26 +55,10 @@ fn blend_code(u: u8, v: u8, n: u64, d: u64, m: u64) -> u8
     }
 }
 
-// Code v over code u at coverage n over 512.
-fn blend_code_512(u: u8, v: u8, n: u64) -> u8
+// Code v over code u at coverage n over 512, whose quotient needs no reciprocal.
+pub fn blend_code_512(u: u8, v: u8, n: u64) -> u8
     requires { n ≤ 512 }
     ensures { result ≡ code_blend u v n 512 }
 {
     (dividend(u, v, n, 512) / 1024) as u8
-}
-
-// Level v over byte u at coverage n over d. The palette is not read: it tells that its lights are at even steps.
-pub fn blend_even(palette: &[u16], u: u8, v: u8, n: u64, d: u64, m: u64) -> u8
-    requires { Palette palette.now × (length palette.now ≡ 256) × Coverage n d × Scaled palette.now d m }
-    ensures { result ≡ blend (lights_in palette.now) u v n d }
-{
-    blend_code(u, v, n, d, m)
-}
-
-// Level v over byte u at coverage n over 512.
-pub fn blend_even_512(palette: &[u16], u: u8, v: u8, n: u64) -> u8
-    requires { Palette palette.now × (length palette.now ≡ 256) × (n ≤ 512) }
-    ensures { result ≡ blend (lights_in palette.now) u v n 512 }
-{
-    blend_code_512(u, v, n)
 }

@@ -8,14 +8,13 @@ ghost use Rattle.lights.specs.inner.Palette.{middle, lights_in, Palette};
 ghost use Rattle.blending.specs.inner.Search.{Between, AtMost, NextTwo, NearGuess};
 ghost use Rattle.blending.specs.inner.Scale.{Scaled};
 
-use lights::palette::{FIRST_GUESS, GUESS_MOST, STRETCH, middle_of, wide};
+use lights::palette::{FIRST_GUESS, GUESS_MOST, PALETTE, STRETCH, middle_of, reach};
 
-// 1 where y is at most x, else 0: no branch, as lights cannot make either likely.
+// 1 where y is at most x, else 0: a number, as a branch that lights cannot make likely either way would cost more.
 fn at_most(y: u64, x: u64) -> usize
-    requires { (y < 2 ^ 63) × (x < 2 ^ 63) }
     ensures { AtMost y x result × (result ≤ 1) }
 {
-    ((x + 9223372036854775808 - y) / 9223372036854775808) as usize
+    usize::from(y <= x)
 }
 
 // Middle k times d.
@@ -60,20 +59,18 @@ fn next_two(palette: &[u16], a: usize, x: u64, d: u64) -> usize
     at_most(middle_over(palette, a + 1, d), x) + at_most(middle_over(palette, a + 2, d), x)
 }
 
-// The code of x over d: guess a, which is not above it, or one of the two after it; 256 where x over d is past those too.
-fn near_guess(palette: &[u16], a: usize, x: u64, d: u64) -> usize
+// The code of x over d: guess a, which is not above it, or one of the two after it; none where x over d is past those too.
+fn near_guess(palette: &[u16], a: usize, x: u64, d: u64) -> Option<usize>
     requires in_bounds { (256 ≤ length palette.now) × (a ≤ 253) × (d ≤ 2 ^ 30) × (x < 2 ^ 63) }
     requires rising { Rising (light_of palette.now) × (middle (light_of palette.now) a * d ≤ x) × Between (light_of palette.now) x d 0 256 }
     ensures { NearGuess (light_of palette.now) x d a result }
 {
     let c = a + next_two(palette, a, x, d);
-    if a == GUESS_MOST {
-        return c;
+    if a == GUESS_MOST || x < middle_over(palette, a + 3, d) {
+        Some(c)
+    } else {
+        None
     }
-    if x < middle_over(palette, a + 3, d) {
-        return c;
-    }
-    256
 }
 
 // The code of x over d, which is past the two after guess a: lights may lie close there, so that the next ones are tried before all are.
@@ -83,12 +80,23 @@ fn beyond_guess(palette: &[u16], a: usize, x: u64, d: u64) -> u8
     ensures { Between (light_of palette.now) x d result (result + 1) }
 {
     if a <= GUESS_MOST - 3 {
-        let code = near_guess(palette, a + 3, x, d);
-        if code < 256 {
+        if let Some(code) = near_guess(palette, a + 3, x, d) {
             return code as u8;
         }
     }
     search(palette, x, d)
+}
+
+// The code of x over d, from guess a, which is not above it.
+fn code_from(palette: &[u16], a: usize, x: u64, d: u64) -> u8
+    requires in_bounds { (256 ≤ length palette.now) × (a ≤ 253) × (d ≤ 2 ^ 30) × (x < 2 ^ 63) }
+    requires rising { Rising (light_of palette.now) × (middle (light_of palette.now) a * d ≤ x) × Between (light_of palette.now) x d 0 256 }
+    ensures { Between (light_of palette.now) x d result (result + 1) }
+{
+    match near_guess(palette, a, x, d) {
+        Some(code) => code as u8,
+        None => beyond_guess(palette, a, x, d),
+    }
 }
 
 // Twice the blended light times d.
@@ -96,8 +104,8 @@ fn doubled(palette: &[u16], u: u8, v: u8, n: u64, d: u64) -> u64
     requires { (256 ≤ length palette.now) × Coverage n d }
     ensures { (result ≡ 2 * blended_light (light_of palette.now) u v n d) × (result ≤ 131070 * d) }
 {
-    let old = wide(palette[u as usize]);
-    let new = wide(palette[v as usize]);
+    let old = u64::from(palette[usize::from(u)]);
+    let new = u64::from(palette[usize::from(v)]);
     2 * (old * (d - n) + new * n)
 }
 
@@ -109,33 +117,30 @@ fn stretch_at(x: u64, m: u64) -> usize
     (x * m / STRETCH) as usize
 }
 
+// What tells the stretches of the doubled lights times d apart.
+pub fn scale_of(palette: &[u16; PALETTE], d: u64) -> u64
+    requires { Palette palette.now × (0 < d) × (d ≤ 2 ^ 30) }
+    ensures { Scaled palette.now d result }
+{
+    reach(palette) / d
+}
+
 // Level v over byte u at coverage n over d, by the scale of d.
-pub fn blend_uneven(palette: &[u16], u: u8, v: u8, n: u64, d: u64, m: u64) -> u8
-    requires { Palette palette.now × Coverage n d × Scaled palette.now d m × (length palette.now ≡ 256 → ⊥) }
+pub fn blend_uneven(palette: &[u16; PALETTE], u: u8, v: u8, n: u64, d: u64, m: u64) -> u8
+    requires { Palette palette.now × Coverage n d × Scaled palette.now d m }
     ensures { result ≡ blend (lights_in palette.now) u v n d }
 {
     let x = doubled(palette, u, v, n, d);
     let guess = palette[FIRST_GUESS + stretch_at(x, m)];
-    let a = guess as usize;
-    let code = near_guess(palette, a, x, d);
-    if code < 256 {
-        return code as u8;
-    }
-    beyond_guess(palette, a, x, d)
+    code_from(palette, guess as usize, x, d)
 }
 
 // Level v over byte u at coverage n over 512: middles are whole numbers, so that what is left of x over 512 does not count.
-pub fn blend_uneven_512(palette: &[u16], u: u8, v: u8, n: u64, m: u64) -> u8
-    requires { Palette palette.now × (n ≤ 512) × Scaled palette.now 512 m × (length palette.now ≡ 256 → ⊥) }
+pub fn blend_uneven_512(palette: &[u16; PALETTE], u: u8, v: u8, n: u64, m: u64) -> u8
+    requires { Palette palette.now × (n ≤ 512) × Scaled palette.now 512 m }
     ensures { result ≡ blend (lights_in palette.now) u v n 512 }
 {
     let x = doubled(palette, u, v, n, 512);
     let guess = palette[FIRST_GUESS + stretch_at(x, m)];
-    let a = guess as usize;
-    let y = x / 512;
-    let code = near_guess(palette, a, y, 1);
-    if code < 256 {
-        return code as u8;
-    }
-    beyond_guess(palette, a, y, 1)
+    code_from(palette, guess as usize, x / 512, 1)
 }

@@ -30,21 +30,6 @@ pub chords_le : (Y : ℕ → ℕ) (a b : ℕ) → chords Y a b ≤ 512
 unfolding chords chord
 chords_le Y a b = omega arith
 
--- by the smaller and the larger distance
-pub chords_flat : (Y : ℕ → ℕ) (a b : ℕ) → a ≤ b → chords Y a b ≡ min (Y a - 256 * b) 256 + min (Y (a + 1) - 256 * b) 256
-unfolding chords chord
-chords_flat Y a b h =
-    let m : min a b ≡ a = omega arith in
-    let n : max a b ≡ b = omega arith in
-    rw (m, n)
-
-pub chords-steep : (Y : ℕ → ℕ) (a b : ℕ) → b < a → chords Y a b ≡ min (Y b - 256 * a) 256 + min (Y (b + 1) - 256 * a) 256
-unfolding chords chord
-chords-steep Y a b h =
-    let m : min a b ≡ b = omega arith in
-    let n : max a b ≡ a = omega arith in
-    rw (m, n)
-
 -- ---- discs and rings
 
 pub folded_diff : {z : ℤ} {x c : ℕ} → Diff z x c → folded z ≡ apart c x

@@ -1,5 +1,5 @@
 -- Laws of the heights of a circle.
-use mathlib.Core.Path.{◌≡◌, refl, sym, ap, ◌∙◌}
+use mathlib.Core.Path.{◌≡◌, refl, ap, ◌∙◌}
 use mathlib.Core.Logic.{◌⊎◌, inl, inr, ⊎_elim}
 use Prim.Native.Nat.{ℕ, zero, suc, ◌+◌, ◌*◌, ◌-◌, ◌≤◌, ◌<◌}
 use native.Mathlib.Omega.{arith}
@@ -71,20 +71,18 @@ half_root_high (suc b) m h =
     let e : 2 * suc b - 1 ≡ 2 * b + 1 = omega arith in
     search_step b m (λ r. m < (2 * r + 1) * (2 * r + 1)) (λ _. h) (λ k. half_root_high b m (rw e at k))
 
--- one step of the search
-pub half_root_next : (t m : ℕ) → 0 < t → m < (2 * t - 1) * (2 * t - 1) → half_root (t - 1) m ≡ half_root t m
-half_root_next t m h k = sym (half_root_from t m (t - 1) (omega arith) (rw (odd t h) at k))
-
 pub half_root_here : (t m : ℕ) → (2 * t - 1) * (2 * t - 1) ≤ m → half_root t m ≡ t
 half_root_here t m h = omega (arith, half_root_most t m t (omega arith) h, half_root_le t m)
+
+pub half_root_found : (t m : ℕ) → (2 * t + 1) * (2 * t + 1) ≤ m → half_root (t + 1) m ≡ t + 1
+half_root_found t m h = let e : 2 * (t + 1) - 1 ≡ 2 * t + 1 = omega arith in half_root_here (t + 1) m (rw e h)
 
 -- a number whose odd squares m lies between
 pub half_root_is : (b m u : ℕ) → m < (2 * b + 1) * (2 * b + 1) → (2 * u + 1) * (2 * u + 1) ≤ m → m < (2 * u + 3) * (2 * u + 3) → half_root b m ≡ u + 1
 half_root_is b m u top low high =
     let under = ⊎_elim (λ h. h) (λ h. absurd (omega (arith, square_le {a = 2 * b + 1} {b = 2 * u + 1} (omega arith)))) (lt_or_le u b) in
-    let below : 2 * (u + 1) - 1 ≡ 2 * u + 1 = omega arith in
     let above : 2 * (u + 1) + 1 ≡ 2 * u + 3 = omega arith in
-    half_root_from b m (u + 1) (omega arith) (rw above high) ∙ half_root_here (u + 1) m (rw below low)
+    half_root_from b m (u + 1) (omega arith) (rw above high) ∙ half_root_found u m low
 
 -- ---- heights
 

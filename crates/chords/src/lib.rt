@@ -7,22 +7,18 @@ ghost use Rattle.limits.specs.Limits.{radius_most};
 ghost use Rattle.chords.specs.Circle.{half_root, height_of, chords};
 ghost use Rattle.chords.specs.inner.Circle.{height_most, apart, Held, Narrowed};
 
-use numbers::less;
-
 // The whole number nearest to half the square root of m, searched downwards from y.
 fn half_root(y: u64, m: u64) -> u64
     requires { y ≤ height_most }
     ensures { result ≡ half_root y m }
 {
-    let mut t = y;
-    while 0 < t {
-        let odd = 2 * t - 1;
+    for t in (0..y).rev() {
+        let odd = 2 * t + 1;
         if odd * odd <= m {
-            return t;
+            return t + 1;
         }
-        t -= 1;
     }
-    t
+    0
 }
 
 // t, brought down to near the root of quarter by one turn of Newton's rule, rounded.
@@ -30,7 +26,7 @@ fn nearer(t: u64, quarter: u64) -> u64
     requires { t ≤ height_most }
     ensures { result ≤ t }
 {
-    t - less(t * t + t, quarter) / (2 * t + 1)
+    t - (t * t + t).saturating_sub(quarter) / (2 * t + 1)
 }
 
 // Half the root of m, searched downwards from y less the last step, which is not too low since heights fall faster and faster, brought
@@ -39,7 +35,7 @@ fn searched(y: u64, step: u64, m: u64) -> u64
     requires { (y ≤ height_most) × (m < (2 * y + 1) * (2 * y + 1)) }
     ensures { result ≡ half_root y m }
 {
-    let t = nearer(less(y, step), m / 4);
+    let t = nearer(y.saturating_sub(step), m / 4);
     let odd = 2 * t + 1;
     if m < odd * odd {
         return half_root(t, m);
@@ -53,7 +49,7 @@ fn passed(u: u64, m: u64) -> u64
     ensures { result ≤ 1 }
 {
     let odd = 2 * u + 1;
-    if m < odd * odd { 1 } else { 0 }
+    u64::from(m < odd * odd)
 }
 
 // One less than the height behind y, by the last step: where heights fall steadily, the next step is 1 shorter, the same, or 1 or 2 longer.
@@ -62,10 +58,7 @@ fn guess(y: u64, step: u64, m: u64) -> u64
     requires { y ≤ height_most }
     ensures { result ≤ y }
 {
-    if y < step {
-        return 0;
-    }
-    let u = y - step;
+    let u = y.saturating_sub(step);
     if u < 3 {
         return u;
     }
@@ -79,7 +72,7 @@ fn is_next(u: u64, m: u64) -> bool
 {
     let odd = 2 * u + 1;
     let next = 2 * u + 3;
-    odd * odd <= m && m < next * next
+    (odd * odd..next * next).contains(&m)
 }
 
 // Circles up to this radius have heights that fall too fast for a guess by the last step.
@@ -112,16 +105,13 @@ pub fn heights(hs: &mut [u32], radius: u64)
     ensures { Held radius hs.old hs.new }
 {
     let mut y = 256 * radius;
-    let mut step: u64 = 0;
-    let mut left = radius;
-    while 0 < left {
-        let k = radius - left;
+    let mut step = 0;
+    for k in 0..radius {
         let m = 262144 * (radius * radius - k * k);
         let next = next_height(radius, y, step, m);
         hs[k as usize] = next as u32;
         step = y - next;
         y = next;
-        left -= 1;
     }
 }
 
@@ -132,17 +122,25 @@ struct Bracket {
     high: u64,
 }
 
-// Half of a bracket, the one with the root.
-fn halved(low: u64, high: u64, m: u64) -> Bracket
-    requires { (low + 1 < high) × (high ≤ height_most + 1) }
-    ensures { Narrowed low high m result.low result.high }
-{
-    let middle = (low + high) / 2;
-    let odd = 2 * middle - 1;
-    if odd * odd <= m {
-        Bracket { low: middle, high }
-    } else {
-        Bracket { low, high: middle }
+impl Bracket {
+    // Its half with the root.
+    fn halved(self, m: u64) -> Bracket
+        requires { (self.low + 1 < self.high) × (self.high ≤ height_most + 1) }
+        ensures { Narrowed self.low self.high m result.low result.high }
+    {
+        let middle = (self.low + self.high) / 2;
+        let odd = 2 * middle - 1;
+        if odd * odd <= m {
+            Bracket {
+                low: middle,
+                high: self.high,
+            }
+        } else {
+            Bracket {
+                low: self.low,
+                high: middle,
+            }
+        }
     }
 }
 
@@ -155,14 +153,14 @@ fn height_at(radius: u64, k: u64) -> u64
         return 0;
     }
     let m = 262144 * (radius * radius - k * k);
-    let mut low: u64 = 0;
-    let mut high = 256 * radius + 1;
-    while low + 1 < high {
-        let next = halved(low, high, m);
-        low = next.low;
-        high = next.high;
+    let mut bracket = Bracket {
+        low: 0,
+        high: 256 * radius + 1,
+    };
+    while bracket.low + 1 < bracket.high {
+        bracket = bracket.halved(m);
     }
-    low
+    bracket.low
 }
 
 // How far a pixel is from the centre, by their offsets.
@@ -172,12 +170,12 @@ pub fn apart_of(c: u64, x: u64) -> u64
     if c <= x { x - c } else { c - x - 1 }
 }
 
-// A height less 256·n, brought into 0 to 256: 256 less what it lacks, so that nothing has to be tested.
+// A height less 256·n, brought into 0 to 256.
 pub fn chord_of(height: u64, n: u64) -> u64
     requires { n ≤ 65535 }
     ensures { (result ≡ min (height - 256 * n) 256) × (result ≤ 256) }
 {
-    256 - less(256, less(height, 256 * n))
+    height.saturating_sub(256 * n).min(256)
 }
 
 // The coverage over 512 by a disc, at the distances a and b from its centre.
@@ -185,9 +183,7 @@ pub fn chords_of(radius: u64, a: u64, b: u64) -> u64
     requires { (radius ≤ radius_most) × (a ≤ offset_most + 1) × (b ≤ offset_most + 1) }
     ensures { (result ≡ chords (height_of radius) a b) × (result ≤ 512) }
 {
-    if a <= b {
-        chord_of(height_at(radius, a), b) + chord_of(height_at(radius, a + 1), b)
-    } else {
-        chord_of(height_at(radius, b), a) + chord_of(height_at(radius, b + 1), a)
-    }
+    let near = a.min(b);
+    let far = a.max(b);
+    chord_of(height_at(radius, near), far) + chord_of(height_at(radius, near + 1), far)
 }

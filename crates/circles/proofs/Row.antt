@@ -15,19 +15,19 @@ use Rattle.page.proofs.Clip.{clip-columns}
 use Rattle.page.proofs.Drawn.{drawn_join, drawn-row}
 use Rattle.page.proofs.Over.{up_to, up_to_none, up_to_store, up_to_read, up_to_all}
 use Rattle.chords.specs.inner.Circle.{apart}
-use Rattle.rings.specs.inner.Heights.{between, Measured}
-use Rattle.rings.specs.inner.Placed.{between_on, RingDrawn}
-use Rattle.circles.specs.inner.Row.{Band, left_of, right_of}
-use Rattle.rings.specs.declared.Ring.{Ring}
+use Rattle.rings.specs.inner.Circles.{cover, Measured}
+use Rattle.rings.specs.inner.Placed.{cover_on, RingDrawn}
+use Rattle.circles.specs.inner.Row.{Band, in_stretch, left_of, right_of}
+use Rattle.rings.specs.declared.Circles.{Circles}
 use Rattle.rings.specs.declared.Widths.{Widths}
 use Rattle.page.proofs.Clamp.{clamped_low, clamped_high, clamped-rises, before-clamped, from_clamped, between-clamped}
 use Rattle.circles.proofs.Apart.{apart-near, apart-left, apart-right}
 
 -- a row whose widths are known
-module _ {Y Z : ℕ → ℕ} {view : View} {size : ℕ} (ring : Ring) {row : Widths} (y : ℕ)
+module _ {view : View} {size : ℕ} (circles : Circles) {row : Widths} (y : ℕ)
     (law : Lawful view size)
     (rows : (view.y0 ≤ y) × (y < view.y1))
-    (m : Measured Y Z ring.radius (apart ring.cy (y + origin)) row)
+    (m : Measured circles (apart circles.ring.cy (y + origin)) row)
   where
     clip : view.x0 ≤ view.x1
     clip = law.x-order
@@ -39,9 +39,9 @@ module _ {Y Z : ℕ → ℕ} {view : View} {size : ℕ} (ring : Ring) {row : Wid
     within c d x = between-clamped view.x0 view.x1 c d x clip
 
     -- the band of the offsets b to e; c to d are whole, within the outer circle and outside the inner one
-    band : (b c d e : ℕ) → b ≤ c → c ≤ d → d ≤ e → ring.cx - row.whole ≤ c → d ≤ ring.cx + row.whole
-        → ((x : ℕ) → c ≤ x → x < d → row.inner ≤ apart ring.cx x)
-        → Band Y Z view ring y
+    band : (b c d e : ℕ) → b ≤ c → c ≤ d → d ≤ e → circles.ring.cx - row.whole ≤ c → d ≤ circles.ring.cx + row.whole
+        → ((x : ℕ) → c ≤ x → x < d → row.inner ≤ apart circles.ring.cx x)
+        → Band circles view y
         (clamped view.x0 view.x1 b) (clamped view.x0 view.x1 c) (clamped view.x0 view.x1 d) (clamped view.x0 view.x1 e)
     band b c d e h₁ h₂ h₃ left right outside =
         record {
@@ -50,42 +50,42 @@ module _ {Y Z : ℕ → ℕ} {view : View} {size : ℕ} (ring : Ring) {row : Wid
           whole =
               λ x p q.
               let i = within c d x p q in
-              m.whole-all _ (outside (x + origin) i.0 i.1) (apart-near ring.cx row.whole (x + origin) (omega arith) (omega arith));
+              m.whole-all _ (outside (x + origin) i.0 i.1) (apart-near circles.ring.cx row.whole (x + origin) (omega arith) (omega arith));
         }
 
     -- to the left and to the right of the hole
-    pub left-band : Band Y Z view ring y
-        (left_of view ring row.outer) (left_of view ring row.whole) (left_of view ring row.inner) (left_of view ring row.hole)
+    pub left-band : Band circles view y
+        (left_of view circles.ring row.outer) (left_of view circles.ring row.whole) (left_of view circles.ring row.inner) (left_of view circles.ring row.hole)
     left-band =
-        band _ _ _ _ (omega arith) (omega arith) (omega arith) (omega arith) (omega arith) (λ x _. apart-left ring.cx row.inner x)
+        band _ _ _ _ (omega arith) (omega arith) (omega arith) (omega arith) (omega arith) (λ x _. apart-left circles.ring.cx row.inner x)
 
-    pub right-band : Band Y Z view ring y
-        (right_of view ring row.hole) (right_of view ring row.inner) (right_of view ring row.whole) (right_of view ring row.outer)
+    pub right-band : Band circles view y
+        (right_of view circles.ring row.hole) (right_of view circles.ring row.inner) (right_of view circles.ring row.whole) (right_of view circles.ring row.outer)
     right-band =
-        band _ _ _ _ (omega arith) (omega arith) (omega arith) (omega arith) (omega arith) (λ x p _. apart-right ring.cx row.inner x p)
+        band _ _ _ _ (omega arith) (omega arith) (omega arith) (omega arith) (omega arith) (λ x p _. apart-right circles.ring.cx row.inner x p)
 
     -- nothing is covered beyond the outer circle, nor in the hole
-    none_left : (x : ℕ) → view.x0 ≤ x → x < left_of view ring row.outer → between_on Y Z ring x y ≡ 0
-    none_left x h k = m.outer-none _ (apart-left ring.cx row.outer (x + origin) (before-clamped _ _ _ x h k))
+    none_left : (x : ℕ) → view.x0 ≤ x → x < left_of view circles.ring row.outer → cover_on circles x y ≡ 0
+    none_left x h k = m.outer-none _ (apart-left circles.ring.cx row.outer (x + origin) (before-clamped _ _ _ x h k))
 
-    none_right : (x : ℕ) → x < view.x1 → right_of view ring row.outer ≤ x → between_on Y Z ring x y ≡ 0
-    none_right x h k = m.outer-none _ (apart-right ring.cx row.outer (x + origin) (from_clamped _ _ _ x h k))
+    none_right : (x : ℕ) → x < view.x1 → right_of view circles.ring row.outer ≤ x → cover_on circles x y ≡ 0
+    none_right x h k = m.outer-none _ (apart-right circles.ring.cx row.outer (x + origin) (from_clamped _ _ _ x h k))
 
-    none-middle : (x : ℕ) → left_of view ring row.hole ≤ x → x < right_of view ring row.hole → between_on Y Z ring x y ≡ 0
-    none-middle x p q = let b = within _ _ x p q in m.hole_none _ (apart-near ring.cx row.hole (x + origin) b.0 b.1)
+    none-middle : (x : ℕ) → left_of view circles.ring row.hole ≤ x → x < right_of view circles.ring row.hole → cover_on circles x y ≡ 0
+    none-middle x p q = let b = within _ _ x p q in m.hole_none _ (apart-near circles.ring.cx row.hole (x + origin) b.0 b.1)
 
     pub solid_row : {ink : ℕ → ℕ → ℕ} {l m : List ℕ} {t : ℕ}
-        → RingDrawn ink view ring Y Z (left_of view ring row.outer) y (right_of view ring row.outer) (y + 1) l m t
-        → RingDrawn ink view ring Y Z view.x0 y view.x1 (y + 1) l m t
+        → RingDrawn ink view circles (left_of view circles.ring row.outer) y (right_of view circles.ring row.outer) (y + 1) l m t
+        → RingDrawn ink view circles view.x0 y view.x1 (y + 1) l m t
     solid_row = drawn-row _ _ _ _ _ y (clamped_low _ _ _ clip) (clamped_high _ _ _) (λ x p q. ⊎_elim (none_left x p) (none_right x q))
 
     pub hollow_row : {ink : ℕ → ℕ → ℕ} {l k m : List ℕ} {t u : ℕ}
-        → RingDrawn ink view ring Y Z (left_of view ring row.outer) y (left_of view ring row.hole) (y + 1) l k t
-        → RingDrawn ink view ring Y Z (right_of view ring row.hole) y (right_of view ring row.outer) (y + 1) k m u
-        → RingDrawn ink view ring Y Z view.x0 y view.x1 (y + 1) l m (t + u)
+        → RingDrawn ink view circles (left_of view circles.ring row.outer) y (left_of view circles.ring row.hole) (y + 1) l k t
+        → RingDrawn ink view circles (right_of view circles.ring row.hole) y (right_of view circles.ring row.outer) (y + 1) k m u
+        → RingDrawn ink view circles view.x0 y view.x1 (y + 1) l m (t + u)
     hollow_row d e =
-        let n = between_on Y Z ring in
-        let c = right_of view ring row.hole in
+        let n = cover_on circles in
+        let c = right_of view circles.ring row.hole in
         drawn_join (clipped view.x0 y view.x1 (y + 1) n)
         (clip-columns view.x0 y view.x1 (y + 1) c n (clamped_low _ _ _ clip) (clamped_high _ _ _))
         (drawn-row n view.x0 c _ _ y (clamped_low _ _ _ clip) (rises _ _ (omega arith)) (λ x p q. ⊎_elim (none_left x p) (λ z. none-middle x z q)) d)
@@ -93,13 +93,9 @@ module _ {Y Z : ℕ → ℕ} {view : View} {size : ℕ} (ring : Ring) {row : Wid
 
 -- ---- a stretch that is blended byte by byte
 
--- the coverage of byte i of a stretch whose first pixel is in column x of the row at distance b
-abbrev pub in_stretch : (ℕ → ℕ) → (ℕ → ℕ) → Ring → ℕ → ℕ → ℕ → ℕ
-in_stretch Y Z ring x b i = between Y Z (apart ring.cx (x + i + origin)) b
-
 -- its coverage, by the distance from the centre's column
-pub in_stretch_lem : {c d : ℕ} (Y Z : ℕ → ℕ) (ring : Ring) (x b i : ℕ) → d ≡ apart ring.cx (x + i + origin) → c ≡ between Y Z d b → c ≡ in_stretch Y Z ring x b i
-in_stretch_lem Y Z ring x b i e is = is ∙ ap (λ (d : ℕ). between Y Z d b) e
+pub in_stretch_lem : {c d : ℕ} (circles : Circles) (x b i : ℕ) → d ≡ apart circles.ring.cx (x + i + origin) → c ≡ cover circles d b → c ≡ in_stretch circles x b i
+in_stretch_lem circles x b i e is = is ∙ ap (λ (d : ℕ). cover circles d b) e
 
 -- the first i bytes are blended by an ink, byte k at coverage n k, the rest are as at entry, and the count is that of the first i
 pub record BlendedTo (ink : ℕ → ℕ → ℕ) (n : ℕ → ℕ) (l m : List ℕ) (touched i : ℕ) : Type 0 where

@@ -1,5 +1,5 @@
 // How a line's frame lies on a page.
-ghost use Rattle.std.specs.Prelude.{cond, ◌≡◌, ◌+◌, ◌^◌, ◌≤◌, ◌<◌};
+ghost use Rattle.std.specs.Prelude.{◌≡◌, ◌+◌, ◌^◌, ◌≤◌, ◌<◌};
 ghost use Rattle.numbers.specs.inner.Offset.{offset_most};
 ghost use Rattle.columns.specs.inner.Layout.{Laid, shown, raised, lowered};
 
@@ -33,60 +33,62 @@ pub struct Layout {
     pub origin: usize,
 }
 
-// a or b.
-pub fn either(first: bool, a: usize, b: usize) -> usize
-    ensures { (result ≡ cond first a b) × (result ≤ a + b) }
-{
-    if first { a } else { b }
-}
-
-// How a frame lies on a page.
-pub fn layout_of(view: View, f: Frame) -> Layout
-    requires { (view.w ≤ 1024) × (view.x0 ≤ 1024) × (view.y0 ≤ 1024) × (view.x1 ≤ 1024) × (view.y1 ≤ 1024) × (f.y ≤ offset_most) }
-    ensures { Laid view f result }
-{
-    let along = either(f.steep, view.w, 1);
-    let across = either(f.steep, 1, view.w);
-    let from = either(f.steep, view.x0, view.y0);
-    let end = either(f.steep, view.x1, view.y1);
-    let y = f.y as usize;
-    Layout {
-        along,
-        across,
-        falls: f.falls,
-        low: either(f.falls, y + MIRRORED - end, from + RAISED - y),
-        high: either(f.falls, y + MIRRORED - from, end + RAISED - y),
-        origin: ORIGIN * along + RAISED * across,
+impl Layout {
+    // How a frame lies on a page. The lowest of mirrored rows is at the clip's end.
+    pub fn of(view: View, f: Frame) -> Layout
+        requires { (view.w ≤ 1024) × (view.x0 ≤ 1024) × (view.y0 ≤ 1024) × (view.x1 ≤ 1024) × (view.y1 ≤ 1024) × (f.y ≤ offset_most) }
+        ensures { Laid view f result }
+    {
+        let (along, across) = if f.steep { (view.w, 1) } else { (1, view.w) };
+        let (from, end) = if f.steep {
+            (view.x0, view.x1)
+        } else {
+            (view.y0, view.y1)
+        };
+        let y = f.y as usize;
+        let (low, high) = if f.falls {
+            (y + MIRRORED - end, y + MIRRORED - from)
+        } else {
+            (from + RAISED - y, end + RAISED - y)
+        };
+        Layout {
+            along,
+            across,
+            falls: f.falls,
+            low,
+            high,
+            origin: ORIGIN * along + RAISED * across,
+        }
     }
-}
 
-// Whether row g lies in the clip.
-pub fn is_shown(lay: Layout, g: usize) -> bool
-    ensures { result ≡ shown lay g }
-{
-    if lay.low <= g { g < lay.high } else { false }
-}
-
-// The byte of the row above byte k.
-pub fn byte_above(lay: Layout, k: usize) -> usize
-    requires { (lay.across ≤ k) × (k + lay.across < 2 ^ 63) }
-    ensures { (result ≡ raised lay k) × (result ≤ k + lay.across) }
-{
-    if lay.falls {
-        k - lay.across
-    } else {
-        k + lay.across
+    // Whether row g lies in the clip.
+    pub fn shows(self, g: usize) -> bool
+        ensures { result ≡ shown self g }
+    {
+        (self.low..self.high).contains(&g)
     }
-}
 
-// The byte of the row below byte k.
-pub fn byte_below(lay: Layout, k: usize) -> usize
-    requires { (lay.across ≤ k) × (k + lay.across < 2 ^ 63) }
-    ensures { result ≡ lowered lay k }
-{
-    if lay.falls {
-        k + lay.across
-    } else {
-        k - lay.across
+    // The byte of the row above byte k.
+    pub fn above(self, k: usize) -> usize
+        requires { (self.across ≤ k) × (k + self.across < 2 ^ 63) }
+        ensures { (result ≡ raised self k) × (result ≤ k + self.across) }
+    {
+        if self.falls {
+            k - self.across
+        } else {
+            k + self.across
+        }
+    }
+
+    // The byte of the row below byte k.
+    pub fn below(self, k: usize) -> usize
+        requires { (self.across ≤ k) × (k + self.across < 2 ^ 63) }
+        ensures { result ≡ lowered self k }
+    {
+        if self.falls {
+            k + self.across
+        } else {
+            k - self.across
+        }
     }
 }

@@ -1,14 +1,13 @@
 -- What is tried of a query, and what a query without a refusal has.
 use mathlib.Core.Path.{◌≡◌, refl, sym, ◌∙◌}
 use mathlib.Core.Bool.{Bool, true, false, cond, ◌||◌}
-use Prim.Native.Nat.{ℕ, ◌<◌}
+use Prim.Native.Nat.{ℕ}
 use native.Mathlib.Omega.{arith}
-use borrow.Author.Tests.{not-false, ne_eqb, eqb-true}
+use borrow.Author.Tests.{not-false, eqb-true}
 use lib.Dec.{ltb, eqb}
 use lib.IntN.{ℤ}
 use mir.Syntax.{w16}
 use mir.Val.{SFits, to_z, of_z}
-use mir.Facts.{to_z-of_z}
 use Rattle.numbers.specs.inner.Offset.{offset_most}
 use Rattle.numbers.specs.Coordinate.{in_range}
 use Rattle.limits.specs.Limits.{first, outside, off_range, refusals_of, radius_most, refusal_within, shape_refusal}
@@ -16,9 +15,7 @@ use Rattle.shapes.specs.inner.Offsets.{point_of}
 use Rattle.shapes.specs.declared.Point.{Point}
 use Rattle.shapes.specs.declared.Shape.{Shape}
 use Rattle.limits.proofs.Limits.{outside_offset, point_kept}
-use Rattle.coverage.specs.Coverage.{query_refusal, ratio_of, queried}
-use Rattle.coverage.specs.declared.Ratio.{Ratio}
-use Rattle.coverage.specs.declared.Answer.TheVariants.{Covered, Refused}
+use Rattle.coverage.specs.Coverage.{query_refusal}
 
 either : (t : Bool) → ◌≡◌ {A = ℕ} 7 (cond t 7 7)
 either true = refl
@@ -38,13 +35,18 @@ query_refusals s x y = go (off_range s) (outside x || outside y) (first (refusal
     go false true n = either (eqb n 7)
     go false false n = same n (eqb n 7) refl
 
-pub query_seven : (s : Shape) (x y : ℤ) → shape_refusal s ≡ 7 → query_refusal s x y ≡ 7
-query_seven s x y e = query_refusals s x y ∙ rw e refl
-
--- by the answers of the calls
-pub query_told : (s : Shape) {x y : ℤ} (f : ℕ) (p : Point) → SFits w16 x → SFits w16 y → f ≡ shape_refusal s → p ≡ point_of (to_z w16 (of_z w16 x)) (to_z w16 (of_z w16 y))
-    → query_refusal s x y ≡ cond (eqb f 7) 7 (cond (ltb offset_most p.x || ltb offset_most p.y) 7 f)
-query_told s {x} {y} f p fx fy e h = rw (point_kept fx fy h, e, ← outside_offset x, ← outside_offset y) (query_refusals s x y)
+-- a pixel out of range has 7, and one in range what the shape has, by the answers of the calls
+pub query_pixel : (s : Shape) {x y : ℤ} (p : Point) → SFits w16 x → SFits w16 y → p ≡ point_of (to_z w16 (of_z w16 x)) (to_z w16 (of_z w16 y))
+    → query_refusal s x y ≡ cond (ltb offset_most p.x || ltb offset_most p.y) 7 (shape_refusal s)
+query_pixel s {x} {y} p fx fy h = rw (point_kept fx fy h, ← outside_offset x, ← outside_offset y) (query_refusals s x y ∙ go (outside x || outside y) (shape_refusal s))
+  where
+    go : (t : Bool) (f : ℕ) → cond (eqb f 7) 7 (cond t 7 f) ≡ cond t 7 f
+    go true f = sym (either (eqb f 7))
+    go false f = by_seven (eqb f 7) refl
+      where
+        by_seven : (t : Bool) → eqb f 7 ≡ t → cond t 7 f ≡ f
+        by_seven true e = sym (eqb-true f 7 e)
+        by_seven false e = refl
 
 -- nothing refused: the shape is lawful and the pixel in range
 query_lawful : (s : Shape) (x y : ℤ) → query_refusal s x y ≡ 0 → (shape_refusal s ≡ 0) × (in_range x ≡ true) × (in_range y ≡ true)
@@ -62,16 +64,7 @@ query_lawful s x y z = go (outside x) (outside y) (shape_refusal s) refl refl (s
     go false true f ea eb e = absurd (omega (arith, either (eqb f 7)))
     go false false f ea eb e = (last f e, not-false (in_range x) ea, not-false (in_range y) eb)
 
--- ---- the answers of the query, by the refusal f that was found
-module _ (s : Shape) {x y : ℤ} {f : ℕ} (fx : SFits w16 x) (fy : SFits w16 y) (e : f ≡ query_refusal s (to_z w16 (of_z w16 x)) (to_z w16 (of_z w16 y))) where
-  found : f ≡ query_refusal s x y
-  found = rw (to_z-of_z fx, to_z-of_z fy) at e
-
-  pub refused : 0 < f → Refused f ≡ queried s x y
-  refused h = rw (← found, ne_eqb f 0 (λ z. omega arith))
-
-  pub covered : f ≡ 0 → (ratio : Ratio) → ratio ≡ ratio_of s (to_z w16 (of_z w16 x)) (to_z w16 (of_z w16 y)) → Covered ratio ≡ queried s x y
-  covered h ratio g = rw (← found, h, rw (to_z-of_z fx, to_z-of_z fy) at g)
-
-  pub lawful : f ≡ 0 → (shape_refusal s ≡ 0) × (in_range (to_z w16 (of_z w16 x)) ≡ true) × (in_range (to_z w16 (of_z w16 y)) ≡ true)
-  lawful h = query_lawful s (to_z w16 (of_z w16 x)) (to_z w16 (of_z w16 y)) (sym e ∙ h)
+-- the same of the locals of a query
+pub lawful : (s : Shape) {x y : ℤ} → SFits w16 x → SFits w16 y → query_refusal s (to_z w16 (of_z w16 x)) (to_z w16 (of_z w16 y)) ≡ 0
+    → (shape_refusal s ≡ 0) × (in_range (to_z w16 (of_z w16 x)) ≡ true) × (in_range (to_z w16 (of_z w16 y)) ≡ true)
+lawful s {x} {y} fx fy z = query_lawful s (to_z w16 (of_z w16 x)) (to_z w16 (of_z w16 y)) z

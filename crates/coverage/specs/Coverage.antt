@@ -1,9 +1,10 @@
 -- The coverage of a pixel by a shape, and what a coverage query answers (R6.3, R8.4).
-use Rattle.std.specs.Prelude.{Bool, true, false, cond, ◌||◌, ◌∷◌, ℕ, ◌*◌, ltb, eqb, ℤ, pos, negsuc, nat_abs}
+use Rattle.std.specs.Prelude.{Result, Bool, true, false, cond, ◌||◌, ◌∷◌, ℕ, ◌*◌, ltb, ℤ, pos, negsuc, nat_abs}
 use Rattle.numbers.specs.Fraction.{Frac, ◌over◌}
 use Rattle.shapes.specs.declared.Line.{Line}
 use Rattle.shapes.specs.declared.Shape.{Shape}
 use Rattle.shapes.specs.declared.Shape.TheVariants.{Line as line, Disc as disc, Ring as ring, Triangle as triangle}
+use Rattle.limits.specs.Refusal.{unless}
 use Rattle.limits.specs.Limits.{first, outside, off_range, refusals_of, radius_most}
 use Rattle.bands.specs.Line.{exact_row, exact_whole, approx_row, approx_whole}
 use Rattle.shapes.specs.Span.{longer, shorter}
@@ -11,9 +12,7 @@ use Rattle.bands.specs.Frame.{column_of, frame_row}
 use Rattle.chords.specs.Circle.{disc_cover, ring_cover}
 use Rattle.sides.specs.Triangle.{triangle_cover, triangle_whole}
 use Rattle.shapes.specs.declared.Triangle.{Triangle}
-use Rattle.coverage.specs.declared.Ratio.{Ratio}
-use Rattle.coverage.specs.declared.Answer.{Answer}
-use Rattle.coverage.specs.declared.Answer.TheVariants.{Covered, Refused}
+use Rattle.numbers.specs.declared.Ratio.{Ratio}
 
 -- columns outside 0 to l − 1 have 0
 unfoldable pub in_columns : ℕ → (ℕ → ℤ) → ℤ → ℤ
@@ -86,8 +85,5 @@ abbrev pub ratio_of : Shape → ℤ → ℤ → Ratio
 ratio_of s x y = record { n = drawn_n s x y; d = drawn_d s }
 
 -- the answer to a query: n and d, or the number of the first refusal
-abbrev pub query_answer : ℕ → Ratio → Answer
-query_answer refusal ratio = cond (eqb refusal 0) (Covered ratio) (Refused refusal)
-
-abbrev pub queried : Shape → ℤ → ℤ → Answer
-queried s x y = query_answer (query_refusal s x y) (ratio_of s x y)
+abbrev pub queried : Shape → ℤ → ℤ → Result Ratio ℕ
+queried s x y = unless (query_refusal s x y) (ratio_of s x y)

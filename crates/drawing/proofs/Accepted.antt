@@ -20,7 +20,7 @@ use Rattle.drawing.specs.Cover.{Covering}
 use Rattle.drawing.specs.Zone.{Zone, OnPage, zone_margin, ZoneWithin}
 use Rattle.drawing.specs.Margin.{margin_read, zone_read}
 use Rattle.drawing.specs.inner.Walk.{AllLawful}
-use Rattle.drawing.specs.declared.Outcome.{Outcome}
+use Rattle.drawing.specs.Outcome.{Outcome}
 use Rattle.drawing.proofs.Lawful.{list_lawful}
 use Rattle.drawing.proofs.Covers.{bound_since, page_since, margins_bound}
 use Rattle.drawing.proofs.Zone.{zone_bounded}

@@ -25,7 +25,7 @@ use Rattle.touches.proofs.Ceiling.{touches-ceiling}
 use Rattle.drawing.specs.Counts.{drawing_count, shapes_count}
 use Rattle.drawing.specs.Claim.{drawings_by, Claim}
 use Rattle.drawing.specs.Ceiling.{TouchesWithin}
-use Rattle.drawing.specs.declared.Outcome.{Outcome}
+use Rattle.drawing.specs.Outcome.{Outcome}
 use Rattle.drawing.proofs.Shapes.{counts_same}
 
 -- no shape has a refusal

@@ -1,9 +1,10 @@
 -- The claim about a list, refused and accepted.
-use mathlib.Core.Path.{◌≡◌, refl, sym, subst}
+use mathlib.Core.Path.{◌≡◌, refl, sym, ap, subst}
 use mathlib.Core.List.{List, [], ◌++◌}
 use Prim.Native.Nat.{ℕ, ◌+◌, ◌*◌, ◌^◌, ◌≤◌, ◌<◌}
 use native.Mathlib.Nat.{mul-le-mul}
 use native.Mathlib.Omega.{arith}
+use Rattle.std.specs.Prelude.{Ok, Err}
 use lib.ListN.{length, get_or, replicate, take, drop, length-take}
 use Rattle.numbers.specs.Sum.{total}
 use Rattle.limits.proofs.Limits.{basis-size}
@@ -14,7 +15,6 @@ use Rattle.settings.specs.Drawing.{Drawing, drawings}
 use Rattle.settings.specs.Settings.{start}
 use Rattle.lists.specs.inner.Walk.{list_drawings}
 use Rattle.format.specs.declared.Header.{Header}
-use Rattle.lists.specs.declared.check.Checked.TheVariants.{Accepted, Refused}
 use Rattle.lists.proofs.InForce.{start-clip}
 use Rattle.lists.proofs.Walkable.{found, room, lit, list_walkable, drawings_are}
 use Rattle.draw.proofs.Refusals.{view_lawful}
@@ -23,8 +23,7 @@ use Rattle.drawing.specs.Page.{drawn_page}
 use Rattle.drawing.specs.Counts.{shapes_count, own_of, player_counts}
 use Rattle.drawing.specs.Claim.{answer_by, drawings_by, page_by, ByteBounded, Bounded, ClaimBy, Claim, outcome_by}
 use Rattle.drawing.specs.inner.Walk.{AllLawful, Drawable, ListPainted}
-use Rattle.drawing.specs.declared.Answer.TheVariants.{Drawn, Refused as refusedAt}
-use Rattle.drawing.specs.declared.Outcome.{Outcome}
+use Rattle.drawing.specs.Outcome.{Outcome}
 use Rattle.drawing.proofs.Players.{counted}
 use Rattle.drawing.proofs.Bytes.{page-whole, all_bounded}
 
@@ -34,20 +33,21 @@ unfolding own_of total
 none-counted w h = refl
 
 -- a list that the check refuses
-pub refused-claim : (lights s l : List ℕ) (f place : ℕ) → Refused f place ≡ checked_of s (length l) lights → Claim lights s l (record { answer = refusedAt f place; touched = replicate 8 0 }) l
+pub refused-claim : (lights s l : List ℕ) (f place : ℕ) → Err (f, place) ≡ checked_of s (length l) lights → Claim lights s l (record { answer = Err (f, place); touched = replicate 8 0 }) l
 unfolding answer_by drawings_by page_by Bounded AllLawful
 refused-claim lights s l f place e = go (page_records s (length l) lights) e
   where
-    go : (x : Records) → Refused f place ≡ checked_as (header_at s) x → ClaimBy lights (header_at s) x l (record { answer = refusedAt f place; touched = replicate 8 0 }) l
+    go : (x : Records) → Err (f, place) ≡ checked_as (header_at s) x → ClaimBy lights (header_at s) x l (record { answer = Err (f, place); touched = replicate 8 0 }) l
     go (accepted rs) k = absurd (let z : ◌≡◌ {A = ℕ} 0 1 = cc in omega arith)
     go (refused g q) k =
-        let a : f ≡ g = cc in
-        let b : place ≡ q = cc in
+        let both : ◌≡◌ {A = ℕ × ℕ} (f, place) (g, q) = cc in
+        let a : f ≡ g = ap (λ (z : ℕ × ℕ). z.0) both in
+        let b : place ≡ q = ap (λ (z : ℕ × ℕ). z.1) both in
         let d = header_at s in
         record { answer = rw (a, b); page = refl; bound = tt; counts = counted d.version d.w d.h [] (replicate 8 0) tt (none-counted d.w d.h) }
 
 -- one that it accepts with the header d
-module _ (lights s l : List ℕ) (d : Header) (t : ℕ) (e : Accepted d t ≡ checked_of s (length l) lights) where
+module _ (lights s l : List ℕ) (d : Header) (t : ℕ) (e : Ok (record { header = d; ceiling = t }) ≡ checked_of s (length l) lights) where
   fits : d.w * d.h ≤ length l
   fits = room s (length l) lights d t e
 
@@ -86,7 +86,7 @@ module _ (lights s l : List ℕ) (d : Header) (t : ℕ) (e : Accepted d t ≡ ch
     painted = subst (λ (q : List Drawing). ListPainted lights (basis_of d) d.background q lent p ts) same done
 
     abbrev outcome : Outcome
-    outcome = record { answer = Drawn d.w d.h; touched = ts }
+    outcome = record { answer = Ok (record { w = d.w; h = d.h }); touched = ts }
 
     abbrev whole : List ℕ
     whole = p ++ drop (d.w * d.h) l

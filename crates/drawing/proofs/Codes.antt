@@ -25,7 +25,7 @@ use Rattle.drawing.specs.Page.{drawn_page}
 use Rattle.drawing.specs.Claim.{page_by, ByteBounded, Bounded, ClaimBy, Claim}
 use Rattle.drawing.specs.Codes.{codes_page, CodeBounded, CodesBounded, CodesClaimBy, CodesClaim}
 use Rattle.drawing.specs.inner.Walk.{AllLawful}
-use Rattle.drawing.specs.declared.Outcome.{Outcome}
+use Rattle.drawing.specs.Outcome.{Outcome}
 use Rattle.drawing.proofs.Bytes.{touches-sound, byte-is}
 use Rattle.drawing.proofs.Lawful.{list_lawful}
 

@@ -27,7 +27,7 @@ use Rattle.drawing.specs.Claim.{ClaimBy, Claim}
 use Rattle.drawing.specs.Zone.{Zone, zone_sum, OnPage, zone_margin, ZoneWithin}
 use Rattle.drawing.specs.Margin.{margin_by, margin_then, margin_after, margin_read, zone_read}
 use Rattle.drawing.specs.inner.Walk.{AllLawful}
-use Rattle.drawing.specs.declared.Outcome.{Outcome}
+use Rattle.drawing.specs.Outcome.{Outcome}
 use Rattle.drawing.proofs.Lawful.{list_lawful}
 use Rattle.drawing.proofs.Zone.{zone_bounded}
 

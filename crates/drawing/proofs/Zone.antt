@@ -14,7 +14,7 @@ use Rattle.format.specs.declared.Header.{Header}
 use Rattle.shapes.specs.declared.Record.{Record}
 use Rattle.drawing.specs.Claim.{Bounded, ClaimBy}
 use Rattle.drawing.specs.Zone.{Zone, zone_sum, OnPage, zone_margin, ZoneWithin}
-use Rattle.drawing.specs.declared.Outcome.{Outcome}
+use Rattle.drawing.specs.Outcome.{Outcome}
 
 module _ (w h : ℕ) where
   -- what holds of each pixel of the page

@@ -1,5 +1,5 @@
 -- The claim about a list, whole: what drawing it answers, what it leaves on the page, and how far each byte may be from the exact blend (R10.3).
-use Rattle.std.specs.Prelude.{List, [], ℕ, ◌+◌, ◌*◌, ◌<◌, length, get_or, ◌≡◌}
+use Rattle.std.specs.Prelude.{List, [], ℕ, ◌+◌, ◌*◌, ◌<◌, length, get_or, ◌≡◌, Result, Ok, Err}
 use Rattle.numbers.specs.Fraction.{Within}
 use Rattle.lights.specs.Lights.{light_of}
 use Rattle.format.specs.Format.{header_at, basis_of}
@@ -10,16 +10,15 @@ use Rattle.bound.specs.Exact.{Touch, whole, exact_after, bound_of}
 use Rattle.drawing.specs.Touches.{touches_at}
 use Rattle.drawing.specs.Page.{drawn_page}
 use Rattle.drawing.specs.Counts.{shapes_count, player_counts, Counted}
-use Rattle.drawing.specs.declared.Answer.{Answer}
-use Rattle.drawing.specs.declared.Answer.TheVariants.{Drawn, Refused}
-use Rattle.drawing.specs.declared.Outcome.{Outcome}
+use Rattle.drawing.specs.declared.Size.{Size}
+use Rattle.drawing.specs.Outcome.{Outcome}
 
 -- ---- a list with the header d, and its records or its refusal
 
 -- the answer: W and H, or the refusal and its place
-unfoldable pub answer_by : Header → Records → Answer
-answer_by d (accepted rs) = Drawn d.w d.h
-answer_by d (refused f place) = Refused f place
+unfoldable pub answer_by : Header → Records → Result Size (ℕ × ℕ)
+answer_by d (accepted rs) = Ok (record { w = d.w; h = d.h })
+answer_by d (refused f place) = Err (f, place)
 
 -- its drawings; a refused list has none
 unfoldable pub drawings_by : Header → Records → List Drawing

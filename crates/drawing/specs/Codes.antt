@@ -11,7 +11,7 @@ use Rattle.bound.specs.Codes.{code_after, exact_code_after, code_bound_of}
 use Rattle.drawing.specs.Touches.{touches_at}
 use Rattle.drawing.specs.Counts.{Counted}
 use Rattle.drawing.specs.Claim.{answer_by, drawings_by}
-use Rattle.drawing.specs.declared.Outcome.{Outcome}
+use Rattle.drawing.specs.Outcome.{Outcome}
 
 -- the page after a list: codes are blended as they stand, from the background on; after a refusal it is as it was
 unfoldable pub codes_page : Header → Records → List ℕ → List ℕ

@@ -2,6 +2,7 @@
 pub mod Touches
 pub mod Page
 pub mod Counts
+pub mod Outcome
 pub mod Claim
 pub mod Ceiling
 pub mod Cover

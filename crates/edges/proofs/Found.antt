@@ -13,8 +13,8 @@ use Rattle.edges.proofs.Under.{whole-level, whole_slanted, at_level, at_slanted}
 use Rattle.edges.proofs.Edge.{at_le}
 
 -- a strip is one product
-pub found-strip : (h p : ℕ) {q r : ℕ} → q ≡ min p h → r ≡ q * (2 * p - q) → r ≡ strip h p
-found-strip h p {q} e f = f ∙ ⊎_elim low high (lt_or_le p h)
+pub found-strip : (h p : ℕ) {q : ℕ} → q ≡ min p h → q * (2 * p - q) ≡ strip h p
+found-strip h p {q} e = ⊎_elim low high (lt_or_le p h)
   where
     low : p < h → q * (2 * p - q) ≡ strip h p
     low g =
@@ -37,16 +37,15 @@ module _ (h from to z : ℕ) (wide : h ≤ span_most) (high : dist from to ≤ s
   under_most : under_at h from to z ≤ whole_most
   under_most = omega (arith, at_le h from to z, whole-most h (dist from to) wide high)
 
-  pub found-level : {left floor r : ℕ} → from ≡ to → floor ≡ h * z → left ≡ from - floor → r ≡ min left h
-      → (r ≡ under_at h from to z) × (r ≤ whole_most)
-  found-level {r = r} e f g k =
-      let n : r ≡ under_at h from to z = k ∙ rw (g, f) (sym (at_level h from to z e)) in
+  pub found-level : {left r : ℕ} → from ≡ to → left ≡ from - h * z → r ≡ min left h → (r ≡ under_at h from to z) × (r ≤ whole_most)
+  found-level {r = r} e g k =
+      let n : r ≡ under_at h from to z = k ∙ rw g (sym (at_level h from to z e)) in
       (n, omega (arith, under_most))
 
-  pub found_slanted : {left right floor u w r : ℕ} → (from ≡ to → ⊥) → floor ≡ h * z → left ≡ from - floor → right ≡ to - floor
+  pub found_slanted : {left right u w r : ℕ} → (from ≡ to → ⊥) → left ≡ from - h * z → right ≡ to - h * z
       → u ≡ strip h right → w ≡ strip h left → r ≡ dist u w → (r ≡ under_at h from to z) × (r ≤ whole_most)
-  found_slanted {r = r} e f g g' s t k =
-      let n : r ≡ under_at h from to z = k ∙ rw (s, t, g, g', f) (sym (at_slanted h from to z e)) in
+  found_slanted {r = r} e g g' s t k =
+      let n : r ≡ under_at h from to z = k ∙ rw (s, t, g, g') (sym (at_slanted h from to z e)) in
       (n, omega (arith, under_most))
 
 -- ---- what the areas are over
@@ -62,6 +61,6 @@ whole_wide (suc l) k h = refl
 pub whole_flat : (l k : ℕ) → 0 < l → k ≡ 0 → l ≤ span_most → (l ≡ by_zero l 1 (under_d l k)) × (l ≤ whole_most)
 whole_flat l k h e w = (sym (whole_wide l k h ∙ ap (under_d l) e ∙ whole-level l), omega arith)
 
-pub whole_sloped : (l k : ℕ) {p : ℕ} → 0 < l → 0 < k → l ≤ span_most → k ≤ span_most → p ≡ l * k
-    → (2 * p ≡ by_zero l 1 (under_d l k)) × (2 * p ≤ whole_most)
-whole_sloped l k h g w t e = (sym (whole_wide l k h ∙ whole_slanted l k g ∙ omega arith), omega (arith, mul-le-mul w t))
+pub whole_sloped : (l k : ℕ) → 0 < l → 0 < k → l ≤ span_most → k ≤ span_most
+    → (2 * l * k ≡ by_zero l 1 (under_d l k)) × (2 * l * k ≤ whole_most)
+whole_sloped l k h g w t = (sym (whole_wide l k h ∙ whole_slanted l k g), omega (arith, mul-le-mul w t))

@@ -20,8 +20,8 @@ fn strip_of(h: u64, p: u64) -> u64
     requires { (h ≤ span_most) × (p ≤ height_most) }
     ensures { result ≡ strip h p }
 {
-    let inside = numbers::lesser(p, h);
-    scaled(inside, 2 * p - inside)
+    let inside = p.min(h);
+    inside * (2 * p - inside)
 }
 
 // The area under an edge in row z; it is over whole_of(h, k), where it is k higher or lower at its right side.
@@ -29,13 +29,13 @@ pub fn under_at(h: u64, from: u64, to: u64, z: u64) -> u64
     requires { (h ≤ span_most) × (from ≤ height_most) × (to ≤ height_most) × (z ≤ offset_most) × (dist from to ≤ span_most) }
     ensures { (result ≡ under_at h from to z) × (result ≤ whole_most) }
 {
-    let floor = scaled(h, z);
-    let left = numbers::less(from, floor);
+    let floor = h * z;
+    let left = from.saturating_sub(floor);
     if from == to {
-        return numbers::lesser(left, h);
+        return left.min(h);
     }
-    let right = numbers::less(to, floor);
-    numbers::distance(strip_of(h, right), strip_of(h, left))
+    let right = to.saturating_sub(floor);
+    strip_of(h, right).abs_diff(strip_of(h, left))
 }
 
 // What the areas under an edge of width l and height k are over; 1 for an upright one, which has none.
@@ -49,5 +49,5 @@ pub fn whole_of(l: u64, k: u64) -> u64
     if k == 0 {
         return l;
     }
-    2 * scaled(l, k)
+    2 * l * k
 }

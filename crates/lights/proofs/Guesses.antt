@@ -105,10 +105,8 @@ module _ (lights p : List ℕ) (fit : Fit lights) (all : Guesses (light_of light
   pub palette_is : Palette p
   palette_is =
       record {
-        count = omega (arith, all.size);
         rising = λ k h. rw (same k (omega arith), same (suc k) (omega arith)) (fit.rising k h);
-        even = λ e. absurd (omega (arith, all.size));
-        uneven = λ _. record { size = all.size; each = λ b. record { most = (all.each b).most; low = low b } };
+        guesses = record { size = all.size; each = λ b. record { most = (all.each b).most; low = low b } };
       }
     where
       low : (b : ℕ) → middle (light_of p) (guess_of p b) * reach_of p ≤ b * 2 ^ 54

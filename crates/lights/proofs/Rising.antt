@@ -1,8 +1,9 @@
 -- What the tests of lights tell.
-use Rattle.std.proofs.Common.{◌≡◌, ℕ, zero, suc, ◌+◌, ◌-◌, ◌*◌, ◌%◌, ◌^◌, ◌<◌, ◌≤◌, Bool, true, false, cond, not, ◌&&◌, eqb, ltb, leb, List, length, refl, ap, ◌∙◌, subst, ⊎_elim, true≢false, mod-eq_of_lt, mul-le-mul_left, arith, ltb-true, le-ltb, lt-ltb, eq-eqb, ne_eqb, eqb-true, le-leb}
+use Rattle.std.proofs.Common.{◌≡◌, ℕ, zero, suc, ◌+◌, ◌-◌, ◌*◌, ◌%◌, ◌^◌, ◌<◌, ◌≤◌, Bool, true, false, not, ◌&&◌, eqb, ltb, leb, List, length, refl, ap, ◌∙◌, subst, ⊎_elim, true≢false, mod-eq_of_lt, mul-le-mul_left, arith, ltb-true, le-ltb, lt-ltb, eq-eqb, ne_eqb, eqb-true, le-leb}
+use Rattle.std.specs.Int.{from_bool}
 use mathlib.Core.Bool.{and-true, and-false}
 use borrow.Author.Tests.{lt-leb}
-use Rattle.numbers.proofs.Order.{lt_or_le, eq_or_ne}
+use Rattle.numbers.proofs.Order.{lt_or_le}
 use Rattle.lights.specs.Lights.{light_of, rises_to, fit}
 use Rattle.lights.specs.inner.Fit.{Rising, Fit, EvenSteps, StepsOf}
 
@@ -12,8 +13,13 @@ pub rises-none : (light : ℕ → ℕ) → rises_to light 0 ≡ eqb 0 0
 unfolding rises_to
 rises-none light = refl
 
+-- what a test counts
+pub counted_one : (b : Bool) (t : ℕ) → t ≡ from_bool b → t ≤ 1
+counted_one true t e = omega arith
+counted_one false t e = omega arith
+
 -- one light more: t is 1 where it does not rise
-rises_next : (light : ℕ → ℕ) (i fallen t : ℕ) → rises_to light i ≡ eqb fallen 0 → t ≡ cond (leb (light (suc i)) (light i)) 1 0
+rises_next : (light : ℕ → ℕ) (i fallen t : ℕ) → rises_to light i ≡ eqb fallen 0 → t ≡ from_bool (leb (light (suc i)) (light i))
     → rises_to light (suc i) ≡ eqb (fallen + t) 0
 unfolding rises_to
 rises_next light i fallen t e h = ⊎_elim up down (lt_or_le (light i) (light (suc i)))
@@ -29,7 +35,7 @@ rises_next light i fallen t e h = ⊎_elim up down (lt_or_le (light i) (light (s
         let z : t ≡ 1 = h ∙ rw (le-leb (light (suc i)) (light i) w) in
         rw (le-ltb (light i) (light (suc i)) w, ne_eqb (fallen + t) 0 (λ q. omega arith)) (and-false (rises_to light i))
 
-pub rises-more : (light : ℕ → ℕ) (i fallen t : ℕ) → rises_to light i ≡ eqb fallen 0 → t ≡ cond (leb (light (i + 1)) (light i)) 1 0
+pub rises-more : (light : ℕ → ℕ) (i fallen t : ℕ) → rises_to light i ≡ eqb fallen 0 → t ≡ from_bool (leb (light (i + 1)) (light i))
     → rises_to light (i + 1) ≡ eqb (fallen + t) 0
 rises-more light i fallen t e h =
     let s : i + 1 ≡ suc i = omega arith in
@@ -93,15 +99,6 @@ steps_first a step h = omega arith
 -- the next step, in 16 bits that wrap
 pub steps_due : (a step i due : ℕ) → due ≡ (a + step * i) % 2 ^ 16 → (due + step) % 2 ^ 16 ≡ (a + step * (i + 1)) % 2 ^ 16
 steps_due a step i due e = omega arith
-
--- what the test of two lights tells
-pub same-is : (a b t : ℕ) → t ≡ cond (eqb a b) 1 0 → t ≡ 1 → a ≡ b
-same-is a b t e h = ⊎_elim (λ q. q) other (eq_or_ne a b)
-  where
-    other : (a ≡ b → ⊥) → a ≡ b
-    other n =
-        let z : t ≡ 0 = e ∙ rw (ne_eqb a b n) in
-        absurd (omega arith)
 
 -- one light more: where all so far were met, and this one is
 pub steps_more : (light : ℕ → ℕ) (step i : ℕ) → ((k : ℕ) → k < i → light k ≡ (light 0 + step * k) % 2 ^ 16) → light i ≡ (light 0 + step * i) % 2 ^ 16

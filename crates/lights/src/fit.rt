@@ -1,20 +1,13 @@
 // Which lights are fit, and which of them are at even steps.
-ghost use Rattle.std.specs.Prelude.{◌≡◌, ◌≤◌, true, length, if◌then◌else◌, nat_eq, nat_le};
+ghost use Rattle.std.specs.Prelude.{◌≡◌, true, length};
 ghost use Rattle.lights.specs.Lights.{light_of, rises_to};
-ghost use Rattle.lights.specs.inner.Fit.{Rising, EvenSteps, StepsOf, IsKind};
+ghost use Rattle.lights.specs.inner.Fit.{Rising, EvenSteps, StepsOf, Spaced};
 
-// Whether lights are fit, and whether they are known to be at even steps.
-#[derive(Clone, Copy)]
-pub struct Kind {
-    pub fit: bool,
-    pub even: bool,
-}
-
-// 1 where two lights are the same, else 0.
-fn same(a: u16, b: u16) -> u16
-    ensures { (result ≡ (if nat_eq a b then 1 else 0)) × (result ≤ 1) }
-{
-    if a == b { 1 } else { 0 }
+// How fit lights are spaced: at even steps, or not known to be.
+#[derive(Clone, Copy, Debug, PartialEq, Eq)]
+pub enum Steps {
+    Even,
+    Uneven,
 }
 
 // How many lights stand where steps from the first put them. No turn leaves the loop, so that it takes several lights at once.
@@ -24,11 +17,9 @@ fn count_steps(lights: &[u16], first: u16, step: u16) -> u16
 {
     let mut due = first;
     let mut met: u16 = 0;
-    let mut i = 0;
-    while i < 256 {
-        met += same(lights[i], due);
-        due = std::num::wrapping_add_u16(due, step);
-        i += 1;
+    for i in 0..256 {
+        met += u16::from(lights[i] == due);
+        due = due.wrapping_add(step);
     }
     met
 }
@@ -48,45 +39,27 @@ fn rises_evenly(lights: &[u16], first: u16, second: u16) -> bool
     count_steps(lights, first, step) == 256
 }
 
-// 1 where light b is not above light a, else 0.
-fn falls(a: u16, b: u16) -> u16
-    ensures { (result ≡ (if nat_le b a then 1 else 0)) × (result ≤ 1) }
-{
-    if b <= a { 1 } else { 0 }
-}
-
 // Whether lights rise strictly.
 fn rises(lights: &[u16]) -> bool
     requires { length lights.now ≡ 256 }
     ensures { result ≡ rises_to (light_of lights.now) 255 }
 {
     let mut fallen: u16 = 0;
-    let mut i = 0;
-    while i < 255 {
-        fallen += falls(lights[i], lights[i + 1]);
-        i += 1;
+    for i in 0..255 {
+        fallen += u16::from(lights[i + 1] <= lights[i]);
     }
     fallen == 0
 }
 
-// Which kind lights are of. One pass tells lights at even steps, such as codes, and they rise.
-pub fn kind_of(lights: &[u16]) -> Kind
-    ensures { IsKind lights.now result }
+// How lights are spaced, or none where they are unfit. One pass tells lights at even steps, such as codes, and they rise.
+pub fn steps_of(lights: &[u16]) -> Option<Steps>
+    ensures { Spaced lights.now result }
 {
     if lights.len() != 256 {
-        return Kind {
-            fit: false,
-            even: false,
-        };
+        return None;
     }
     if rises_evenly(lights, lights[0], lights[1]) {
-        return Kind {
-            fit: true,
-            even: true,
-        };
+        return Some(Steps::Even);
     }
-    Kind {
-        fit: rises(lights),
-        even: false,
-    }
+    rises(lights).then_some(Steps::Uneven)
 }

@@ -12,10 +12,8 @@ pub fn code_lights() -> [u16; 256]
     ensures { result ≡ codes }
 {
     let mut lights = [0u16; 256];
-    let mut k = 0;
-    while k < 256 {
+    for k in 0..256 {
         lights[k] = k as u16;
-        k += 1;
     }
     lights
 }

@@ -19,19 +19,12 @@ pub const STRETCH: u64 = 18014398509481984;
 // The greatest guess: two codes follow it.
 pub const GUESS_MOST: usize = 253;
 
-// A light in 64 bits.
-pub fn wide(light: u16) -> u64
-    ensures { (result ≡ light) × (result ≤ 65535) }
-{
-    light as u64
-}
-
 // What tells the stretches of light apart: 2^63 - 1 over the last light and one.
 pub fn reach(palette: &[u16]) -> u64
     requires { 256 ≤ length palette.now }
     ensures { (result ≡ reach_of palette.now) × (2 ^ 46 ≤ result) }
 {
-    9223372036854775807 / (wide(palette[255]) + 1)
+    9223372036854775807 / (u64::from(palette[255]) + 1)
 }
 
 // Twice the middle of the lights of codes k - 1 and k.
@@ -39,7 +32,7 @@ pub fn middle_of(palette: &[u16], k: usize) -> u64
     requires { (256 ≤ length palette.now) × (1 ≤ k) × (k ≤ 255) }
     ensures { (result ≡ middle (light_of palette.now) k) × (result ≤ 131070) }
 {
-    wide(palette[k - 1]) + wide(palette[k])
+    u64::from(palette[k - 1]) + u64::from(palette[k])
 }
 
 // The first stretch that begins above a middle.
@@ -55,10 +48,8 @@ fn fill_sixteen(palette: &mut [u16; PALETTE], a: usize, g: u16)
     requires { a ≤ 1056 }
     ensures { FilledFrom a g palette.old palette.new }
 {
-    let mut i = 0;
-    while i < 16 {
+    for i in 0..16 {
         palette[FIRST_GUESS + a + i] = g;
-        i += 1;
     }
 }
 
@@ -67,11 +58,8 @@ fn fill_stretches(palette: &mut [u16; PALETTE], a: usize, b: usize, g: u16)
     requires { (a ≤ 1024) × (b ≤ 1024) }
     ensures { FilledFrom a g palette.old palette.new }
 {
-    fill_sixteen(palette, a, g);
-    let mut end = a + 16;
-    while end < b {
-        fill_sixteen(palette, end, g);
-        end += 16;
+    for k in 0..b.saturating_sub(a) / 16 + 1 {
+        fill_sixteen(palette, a + 16 * k, g);
     }
 }
 
@@ -82,27 +70,23 @@ fn fill_guesses(palette: &mut [u16; PALETTE], lights: &[u16])
 {
     let all = reach(lights);
     let mut a = 0;
-    let mut guess = 0;
-    while guess < 252 {
-        let b = stretch_of(middle_of(lights, guess + 2), all);
-        fill_stretches(palette, a, b, guess as u16);
+    for k in 0..126 {
+        let b = stretch_of(middle_of(lights, 2 * k + 2), all);
+        fill_stretches(palette, a, b, 2 * k as u16);
         a = b;
-        guess += 2;
     }
     let last = stretch_of(middle_of(lights, GUESS_MOST), all);
-    fill_stretches(palette, a, last, guess as u16);
+    fill_stretches(palette, a, last, 252);
     fill_stretches(palette, last, STRETCHES, GUESS_MOST as u16);
 }
 
 // Makes the palette of lights from zeros.
 pub fn fill_palette(palette: &mut [u16; PALETTE], lights: &[u16])
     requires { Fit lights.now × (palette.old ≡ replicate palette_size 0) }
-    ensures { Palette palette.new × (lights_in palette.new ≡ lights.now) × (length palette.new ≡ palette_size) }
+    ensures { Palette palette.new × (lights_in palette.new ≡ lights.now) }
 {
     fill_guesses(palette, lights);
-    let mut i = 0;
-    while i < 256 {
+    for i in 0..256 {
         palette[i] = lights[i];
-        i += 1;
     }
 }

@@ -54,3 +54,10 @@ module _ {A : Type 0} where
 
   pub unless_value : (r : Result A Refusal) (f : ℕ) (a x : A) → numbered r ≡ unless f a → r ≡ Ok x → (f ≡ 0) × (x ≡ a)
   unless_value r f a x h k = grind (arith, nat_tests)
+
+  -- the same of an answer that has its refusal as a number
+  pub unless_ok : {f : ℕ} {a x : A} → Ok x ≡ unless f a → (f ≡ 0) × (x ≡ a)
+  unless_ok e = grind (arith, nat_tests)
+
+  pub unless_err : {f n : ℕ} (a : A) → Err n ≡ unless f a → (n ≡ f) × (0 < f)
+  unless_err a e = grind (arith, nat_tests)

@@ -1,6 +1,7 @@
 -- A walk along several columns.
 use mathlib.Core.Path.{◌≡◌, sym, subst}
 use mathlib.Core.List.{List}
+use Rattle.std.proofs.Common.{length}
 use Prim.Native.Nat.{ℕ, ◌+◌, ◌-◌, ◌≤◌, ◌<◌}
 use native.Mathlib.Omega.{arith}
 use Rattle.numbers.specs.inner.Offset.{origin}
@@ -51,11 +52,11 @@ within-next p w h = record { right = omega (arith, w.right); last = omega (arith
 -- ---- columns p to e
 
 -- a part of columns that may be drawn
-pub drawable : {palette : List ℕ} {s : Stroke} {size size' p e : ℕ} (a b : ℕ) → size' ≡ size → Prepared palette s size → Between s.view s.frame p e → p ≤ a → b ≤ e
-    → Drawable palette s a b size'
-drawable {palette} {s} a b same ready w h k =
+pub drawable : {s : Stroke} {size size' p e : ℕ} (a b : ℕ) → size' ≡ size → Prepared s size → Between s.view s.frame p e → p ≤ a → b ≤ e
+    → Drawable s a b size'
+drawable {s} a b same ready w h k =
     record {
-      ready = subst (Prepared palette s) (sym same) ready;
+      ready = subst (Prepared s) (sym same) ready;
       between =
           λ z.
           record {
@@ -66,7 +67,7 @@ drawable {palette} {s} a b same ready w h k =
           };
     }
 
-module _ {palette : List ℕ} {s : Stroke} {p e size : ℕ} (here : Drawable palette s p e size) (some : p < e) where
+module _ {s : Stroke} {p e size : ℕ} (here : Drawable s p e size) (some : p < e) where
   between : Between s.view s.frame p e
   between = here.between some
 
@@ -92,19 +93,25 @@ module _ {palette : List ℕ} {s : Stroke} {p e size : ℕ} (here : Drawable pal
   walk_begins is p_is zero = record { is = is; left = omega (arith, between.left); first = omega (arith, between.first); few = omega arith }
 
   -- and where it goes on
-  pub steppable : {ink : ℕ → ℕ → ℕ} {at to : Step} {size' : ℕ} {l m : List ℕ} → size' ≡ size → Extended ink s at to l m → to.p < e → Steppable palette s to size'
+  pub steppable : {ink : ℕ → ℕ → ℕ} {at to : Step} {size' : ℕ} {l m : List ℕ} → size' ≡ size → Extended ink s at to l m → to.p < e → Steppable s to size'
   steppable {to = to} same x h =
-      record { ready = subst (Prepared palette s) (sym same) here.ready; standing = x.standing; within = within-next to.p between.end h }
+      record { ready = subst (Prepared s) (sym same) here.ready; standing = x.standing; within = within-next to.p between.end h }
 
-  -- rows only rise, so that all columns lie between the first and the last
-  pub inner-at : {at : Step} → Inside s.frame s.layout p e → Standing s at → p ≤ at.p → at.p < e → Inner s at
-  inner-at {at} in_clip stand h k =
-      let f = s.frame in
-      let long = here.ready.framed.long in
-      record {
-        above_low = omega (arith, in_clip.above_low some, stand.is.g_is, row-rises f.l f.s (p + origin - f.x) (at.p + origin - f.x) long (omega arith));
-        below-high = omega (arith, in_clip.below-high some, stand.is.g_is, row-rises f.l f.s (at.p + origin - f.x) (e - 1 + origin - f.x) long (omega arith));
-      }
+-- rows only rise, so that all columns lie between the first and the last
+pub inner-at : {s : Stroke} {p e size : ℕ} {at : Step} → Steppable s at size → Inside s.frame s.layout p e → p ≤ at.p → at.p < e → Inner s at
+inner-at {s} {p} {e} {at = at} here in_clip h k =
+    let f = s.frame in
+    let long = here.ready.framed.long in
+    let some : p < e = omega arith in
+    record {
+      above_low = omega (arith, in_clip.above_low some, here.standing.is.g_is, row-rises f.l f.s (p + origin - f.x) (at.p + origin - f.x) long (omega arith));
+      below-high = omega (arith, in_clip.below-high some, here.standing.is.g_is, row-rises f.l f.s (at.p + origin - f.x) (e - 1 + origin - f.x) long (omega arith));
+    }
+
+-- a walk that has not come to e goes on
+pub goes_on : {ink : ℕ → ℕ → ℕ} {s : Stroke} {p e size : ℕ} {from at : Step} {l m : List ℕ} → Drawable s p e size → from.p ≡ p → length m ≡ size
+    → Extended ink s from at l m → at.p < e → Steppable s at (length m) × (p ≤ at.p)
+goes_on here first same x more = (steppable here (omega (arith, first, x.order, more)) same x more, omega (arith, first, x.order))
 
 module _ {ink : ℕ → ℕ → ℕ} {s : Stroke} {p e : ℕ} where
   -- a walk that began with no touches and has come to e has drawn them

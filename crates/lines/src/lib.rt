@@ -6,124 +6,87 @@ ghost use Rattle.shapes.specs.declared.Shape.TheVariants.{Line as asShape};
 ghost use Rattle.coverage.specs.Coverage.{drawn_d};
 ghost use Rattle.bands.specs.inner.Frame.{Framed};
 ghost use Rattle.coverage.specs.inner.OnPage.{shape_on};
-ghost use Rattle.lights.specs.inner.Palette.{lights_in, Palette};
 ghost use Rattle.page.specs.inner.Ink.{ink_of};
 ghost use Rattle.page.specs.inner.Paint.{in_view, Lawful, Drawn};
 ghost use Rattle.columns.specs.inner.Layout.{Between, strip};
-ghost use Rattle.lines.specs.inner.Columns.{Drawable, ColumnsDrawn};
-ghost use Rattle.columns.specs.inner.Columns.{Inside};
+ghost use Rattle.lines.specs.inner.Columns.{Drawable, Walking, ColumnsDrawn};
 
 use bands::Frame;
-use page::View;
-use steps::Stroke;
+use columns::layout::Layout;
+use page::{Ink, Palette, View};
+use std::ops::Range;
+use steps::{Step, Stroke, step_clipped, step_inside};
 
-// Draws columns from to end of a stroke, if any, under the clip; hands back how many pixels they touched.
-fn draw_clipped(page: &mut [u8], palette: &[u16], s: Stroke, from: usize, end: usize) -> u64
-    requires { Drawable palette.now s from end (length page.old) }
-    ensures { ColumnsDrawn (ink_of (lights_in palette.now) s.level s.d) s from end page.old page.new result }
-{
-    if end <= from {
-        return 0;
-    }
-    let mut at = steps::first_step(s.layout, s.frame, from);
-    while at.p < end {
-        at = steps::step_clipped(page, palette, s, at);
-    }
-    at.touched
-}
-
-// Draws columns from to end of a stroke, if any, which lie inside the clip, in lights at even steps.
-fn draw_even(page: &mut [u8], palette: &[u16], s: Stroke, from: usize, end: usize) -> u64
-    requires { Drawable palette.now s from end (length page.old) × (length palette.now ≡ 256) × Inside s.frame s.layout from end }
-    ensures { ColumnsDrawn (ink_of (lights_in palette.now) s.level s.d) s from end page.old page.new result }
-{
-    if end <= from {
-        return 0;
-    }
-    let mut at = steps::first_step(s.layout, s.frame, from);
-    while at.p < end {
-        at = steps::step_even(page, palette, s, at);
-    }
-    at.touched
-}
-
-// Draws columns from to end of a stroke, if any, which lie inside the clip, in lights not at even steps.
-fn draw_uneven(page: &mut [u8], palette: &[u16], s: Stroke, from: usize, end: usize) -> u64
-    requires { Drawable palette.now s from end (length page.old) × (length palette.now ≡ 256 → ⊥) × Inside s.frame s.layout from end }
-    ensures { ColumnsDrawn (ink_of (lights_in palette.now) s.level s.d) s from end page.old page.new result }
-{
-    if end <= from {
-        return 0;
-    }
-    let mut at = steps::first_step(s.layout, s.frame, from);
-    while at.p < end {
-        at = steps::step_uneven(page, palette, s, at);
-    }
-    at.touched
-}
-
-// Draws columns from to end of a stroke, if any, which lie inside the clip; hands back how many pixels they touched. Each loop is for one kind
-// of lights, so that no column has to tell which they are.
-fn draw_inside(page: &mut [u8], palette: &[u16], s: Stroke, from: usize, end: usize) -> u64
-    requires { Drawable palette.now s from end (length page.old) × Inside s.frame s.layout from end }
-    ensures { ColumnsDrawn (ink_of (lights_in palette.now) s.level s.d) s from end page.old page.new result }
-{
-    if palette.len() == 256 {
-        draw_even(page, palette, s, from, end)
-    } else {
-        draw_uneven(page, palette, s, from, end)
-    }
-}
-
-// Draws columns from to end of a line; hands back how many pixels they touched.
-pub(crate) fn draw_columns(
+// Draws columns of a stroke, if any, each by a step of a walk; hands back how many pixels they touched. Its loop is for one kind of columns,
+// so that none has to tell whether it lies inside the clip.
+fn draw_walk<I: Ink, F: Fn(&mut [u8], I, Stroke, Step) -> Step>(
     page: &mut [u8],
-    palette: &[u16],
+    ink: I,
+    s: Stroke,
+    columns: Range<usize>,
+    step: F,
+) -> u64
+    requires drawable { Drawable s columns.start columns.end (length page.old) }
+    requires walking { Walking (I.blends ink) s columns.start columns.end (λ l at. F.pre step l ink s at) (λ l at to m. F.post step l ink s at to m) }
+    ensures { ColumnsDrawn (I.blends ink) s columns.start columns.end page.old page.new result }
+{
+    if columns.is_empty() {
+        return 0;
+    }
+    let mut at = Step::first(s.layout, s.frame, columns.start);
+    while at.p < columns.end {
+        at = step(page, ink, s, at);
+    }
+    at.touched
+}
+
+// Draws columns of a line, at least one; hands back how many pixels they touched.
+pub(crate) fn draw_columns<P: Palette>(
+    page: &mut [u8],
+    palette: P,
     view: View,
     line: shapes::Line,
     f: Frame,
     level: u8,
-    from: usize,
-    end: usize,
+    columns: Range<usize>,
 ) -> u64
-    requires { Palette palette.now × Lawful view (length page.old) × Framed line f × Between view f from end }
-    ensures { Drawn view.w view.h (ink_of (lights_in palette.now) level (drawn_d (asShape line)))
-        (strip view f from end (shape_on (asShape line))) page.old page.new result }
+    requires { Lawful view (length page.old) × Framed line f × Between view f columns.start columns.end }
+    ensures { Drawn view.w view.h (ink_of (P.lights palette) level (drawn_d (asShape line)))
+        (strip view f columns.start columns.end (shape_on (asShape line))) page.old page.new result }
 {
-    let lay = columns::layout::layout_of(view, f);
+    let layout = Layout::of(view, f);
     let d = bands::whole_of(line.exact, f.l, f.s);
     let s = Stroke {
         view,
         line,
         frame: f,
-        layout: lay,
-        level,
+        layout,
         d,
-        m: blending::scale_of(palette, d),
     };
-    let inside = columns::inside_of(lay, f, from, end);
-    let lower = draw_clipped(page, palette, s, from, inside.from);
-    let inner = draw_inside(page, palette, s, inside.from, inside.end);
-    let upper = draw_clipped(page, palette, s, inside.end, end);
+    let ink = palette.ink(level, d);
+    let inside = columns::inside_of(layout, f, columns.start..columns.end);
+    let lower = draw_walk(page, ink, s, columns.start..inside.start, step_clipped);
+    let inner = draw_walk(page, ink, s, inside.start..inside.end, step_inside);
+    let upper = draw_walk(page, ink, s, inside.end..columns.end, step_clipped);
     lower + inner + upper
 }
 
 // Draws a line, whose frame is worked out already, within the clip; hands back how many pixels it touched.
-pub fn draw_line(
+pub fn draw_line<P: Palette>(
     page: &mut [u8],
-    palette: &[u16],
+    palette: P,
     view: View,
     line: shapes::Line,
     f: Frame,
     level: u8,
 ) -> u64
-    requires { Palette palette.now × Lawful view (length page.old) × Framed line f }
-    ensures { Drawn view.w view.h (ink_of (lights_in palette.now) level (drawn_d (asShape line)))
+    requires { Lawful view (length page.old) × Framed line f }
+    ensures { Drawn view.w view.h (ink_of (P.lights palette) level (drawn_d (asShape line)))
         (in_view view (shape_on (asShape line))) page.old page.new result }
 {
-    let span = columns::walk_of(view, line, f);
-    if span.end <= span.from {
+    let columns = columns::walk_of(view, line, f);
+    if columns.is_empty() {
         return 0;
     }
-    draw_columns(page, palette, view, line, f, level, span.from, span.end)
+    draw_columns(page, palette, view, line, f, level, columns)
 }

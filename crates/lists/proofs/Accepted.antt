@@ -7,14 +7,17 @@ use Prim.Native.Nat.{ℕ, zero, suc, ◌+◌, ◌≤◌, ◌<◌}
 use native.Mathlib.Omega.{arith}
 use borrow.Author.Tests.{lt-ltb, le-ltb}
 use lib.ListN.{length, drop, length-drop}
+use Rattle.std.specs.Prelude.{Ok}
 use Rattle.numbers.proofs.Order.{lt_or_le, eq_or_ne}
 use Rattle.shapes.specs.declared.Basis.{Basis}
 use Rattle.shapes.specs.declared.Record.{Record}
 use Rattle.format.specs.Format.{header_size, header_at, basis_of, kind_at, size_at, record_at}
 use Rattle.records.specs.Read.{read_refusal}
 use Rattle.lists.specs.List.{Records, accepted, refused, onto, behind_end, header_refusal, records_from, records_of, checked_as}
+use Rattle.settings.specs.Drawing.{drawings}
+use Rattle.settings.specs.Ceiling.{ceiling}
 use Rattle.format.specs.declared.Header.{Header}
-use Rattle.lists.specs.declared.check.Checked.TheVariants.{Accepted}
+use Rattle.lists.specs.declared.check.Accepted.{Accepted}
 use Rattle.records.proofs.Refusals.{Readable, readable}
 use Rattle.lists.proofs.Walk.{at-refusal, at-end, at_record}
 
@@ -88,12 +91,14 @@ pub record AcceptedAs (tests : List (Bool × ℕ)) (s : List ℕ) (d : Header) :
   pub is : records_of tests s ≡ accepted records
   pub header : d ≡ header_at s
 
-pub checked-accepted : (tests : List (Bool × ℕ)) (s : List ℕ) (d : Header) (t : ℕ) → checked_as (header_at s) (records_of tests s) ≡ Accepted d t → AcceptedAs tests s d
+pub checked-accepted : (tests : List (Bool × ℕ)) (s : List ℕ) (d : Header) (t : ℕ) → checked_as (header_at s) (records_of tests s) ≡ Ok (record { header = d; ceiling = t }) → AcceptedAs tests s d
 checked-accepted tests s d t e = go (records_of tests s) refl e
   where
-    go : (x : Records) → records_of tests s ≡ x → checked_as (header_at s) x ≡ Accepted d t → AcceptedAs tests s d
-    go (accepted rs) k f = record { records = rs; is = k; header = cc }
-    go (refused g place) k f = absurd (let z : ◌≡◌ {A = ℕ} 0 1 = cc in omega arith)
+    go : (x : Records) → records_of tests s ≡ x → checked_as (header_at s) x ≡ Ok (record { header = d; ceiling = t }) → AcceptedAs tests s d
+    go (accepted rs) k f =
+        let same : ◌≡◌ {A = Accepted} (record { header = header_at s; ceiling = ceiling (drawings (basis_of (header_at s)) rs) }) (record { header = d; ceiling = t }) = cc in
+        record { records = rs; is = k; header = ap (λ (a : Accepted). a.header) (sym same) }
+    go (refused g place) k f = absurd cc
 
 -- ---- a walk: each record stands whole, and is followed by the rest unless it is the end record
 module _ (b : Basis) (s : List ℕ) where

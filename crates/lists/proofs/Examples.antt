@@ -15,6 +15,7 @@ use Rattle.shapes.specs.declared.Record.TheVariants.{End as end, Setting as sett
 use Rattle.format.specs.Format.{kind_size, kind_of, decoded, fields_of}
 use Rattle.records.specs.Read.{read_refusal}
 use Rattle.records.specs.Write.{record_write_refusal}
+use Rattle.records.specs.declared.write.Cursor.{Cursor}
 use Rattle.lists.specs.List.{accepted, refused, header_refusal, records_from, records_of, page_records}
 
 -- a list of version v with a page of 4 by 3, black
@@ -81,11 +82,15 @@ unfolding size_refusal basis_refusal off_size refusal_within off_range refusals_
 circles lights e =
     (rw e refl, rw e refl, rw e refl, rw e refl, rw e refl, rw e refl, rw e refl, rw e refl, λ same. omega (arith, ap kind_of same))
 
+-- where the writer stands behind a header of version v
+abbrev first_of : ℕ → Cursor
+first_of v = record { place = 10; basis = basis_by v 4 3 }
+
 -- the writer of version 2, and a disc of radius 300 under kind 5; under kind 8; and under kind 8 in version 1
 rooms :
-    (record_write_refusal 30 10 (basis_by 2 4 3) (disc_record 300 false) ≡ 33)
-    × (record_write_refusal 30 10 (basis_by 2 4 3) (disc_record 300 true) ≡ 0)
-    × (record_write_refusal 30 10 (basis_by 1 4 3) (disc_record 300 true) ≡ 4)
+    (record_write_refusal 30 (first_of 2) (disc_record 300 false) ≡ 33)
+    × (record_write_refusal 30 (first_of 2) (disc_record 300 true) ≡ 0)
+    × (record_write_refusal 30 (first_of 1) (disc_record 300 true) ≡ 4)
 unfolding size_refusal basis_refusal off_size refusal_within off_range refusals_of record_refusal kind_of fields_of record_write_refusal
 rooms = (refl, refl, refl)
 

@@ -50,15 +50,10 @@ header_then tests s =
     go false false false zero = refl
     go false false false (suc f) = rw (lt-ltb 0 (suc f) (omega arith), lt-ltb 0 (suc f) (omega arith))
 
--- the two places where a list's header is refused, and a header that is not
-module _ (tests : List (Bool × ℕ)) (s : List ℕ) {f : ℕ} where
-  pub refused-first : f ≡ header_refusal [] s → 0 < f → records_of tests s ≡ refused f 0
-  unfolding records_of
-  refused-first e k = simp (header_then tests s, ← e, lt-ltb 0 f k)
-
-  pub refused-next : header_refusal [] s ≡ 0 → f ≡ first tests → 0 < f → records_of tests s ≡ refused f 0
-  unfolding records_of
-  refused-next none e k = simp (header_then tests s, none, ← e, lt-ltb 0 f k)
+-- a header that is refused by the tests alone, and one that is not
+pub refused-next : (tests : List (Bool × ℕ)) (s : List ℕ) {f : ℕ} → header_refusal [] s ≡ 0 → f ≡ first tests → 0 < f → records_of tests s ≡ refused f 0
+unfolding records_of
+refused-next tests s {f} none e k = simp (header_then tests s, none, ← e, lt-ltb 0 f k)
 
 pub not_refused : (tests : List (Bool × ℕ)) (s : List ℕ) → header_refusal [] s ≡ 0 → first tests ≡ 0
     → records_of tests s ≡ records_from (suc (length s)) (basis_of (header_at s)) (drop header_size s) header_size

@@ -5,6 +5,7 @@ use mathlib.Core.List.{List}
 use Prim.Native.Nat.{ℕ, ◌*◌, ◌≤◌}
 use borrow.Author.Tests.{ltb-false}
 use lib.Dec.{ltb}
+use Rattle.std.specs.Prelude.{Ok}
 use Rattle.lights.specs.Lights.{fit}
 use Rattle.lights.specs.inner.Fit.{Fit}
 use Rattle.lights.proofs.Rising.{fit_passed}
@@ -13,7 +14,6 @@ use Rattle.shapes.specs.declared.Record.{Record}
 use Rattle.format.specs.Format.{header_at, basis_of}
 use Rattle.lists.specs.List.{Records, accepted, page_tests, records_of, checked_of}
 use Rattle.format.specs.declared.Header.{Header}
-use Rattle.lists.specs.declared.check.Checked.TheVariants.{Accepted}
 use Rattle.lists.proofs.Headers.{headed}
 use Rattle.lists.proofs.Accepted.{list-headed, AcceptedAs, checked-accepted}
 use Rattle.settings.specs.Drawing.{drawings}
@@ -44,7 +44,7 @@ module _ {tests : List (Bool × ℕ)} {s : List ℕ} {d : Header} (p : AcceptedA
 
 -- ---- for a page of n bytes, which has the room
 
-module _ (s : List ℕ) (n : ℕ) (lights : List ℕ) (d : Header) (t : ℕ) (e : Accepted d t ≡ checked_of s n lights) where
+module _ (s : List ℕ) (n : ℕ) (lights : List ℕ) (d : Header) (t : ℕ) (e : Ok (record { header = d; ceiling = t }) ≡ checked_of s n lights) where
   pub found : AcceptedAs (page_tests (header_at s) n lights) s d
   found = checked-accepted (page_tests (header_at s) n lights) s d t (sym e)
 

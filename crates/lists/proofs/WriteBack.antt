@@ -16,11 +16,12 @@ use Rattle.shapes.specs.declared.Record.{Record}
 use Rattle.format.specs.Format.{list_most, header_size, basis_of, kind_size, off_kind, kind_of, words, coordinates, fields_of, header_bytes, record_bytes, word_at, coordinate_at, header_at, kind_at, size_at, decoded, record_at}
 use Rattle.format.specs.inner.Record.{Whole}
 use Rattle.records.specs.Read.{read_refusal}
-use Rattle.records.specs.Write.{put_at, written_as, record_written, record_list, records_list, held_by, list_written, records_written, writer_answer}
+use Rattle.records.specs.Write.{put_at, record_write_refusal, moved_to, record_written, record_list, records_list, list_written, records_written, writer_answer}
 use Rattle.lists.specs.List.{mark_at, accepted, records_of, AllBytes}
 use Rattle.records.proofs.Refusals.{Readable, readable}
 use Rattle.lists.proofs.Headers.{Headed, headed}
-use Rattle.records.specs.declared.write.Written.{Written}
+use Rattle.records.specs.declared.write.Cursor.{Cursor}
+use Rattle.std.specs.Prelude.{Result, Ok}
 use Rattle.format.proofs.Bytes.{each-kind, kind-found}
 use Rattle.records.proofs.Writes.{put_length, header_done, header-none, record_done, refusal-none}
 use Rattle.lists.proofs.Accepted.{Holds, last, more, list-headed, list_holds}
@@ -113,87 +114,85 @@ put_put l place bs cs h =
     ∙ ap₂ (λ (x : List ℕ) (k : ℕ). x ++ drop k l) (append_assoc (take place l) bs cs) next
 
 -- ---- the records, one after the other
-module _ (b : Basis) (s : List ℕ) (none : read_refusal b s ≡ 0) (bytes : AllBytes s) (m : List ℕ) (place : ℕ) (low : header_size ≤ place)
-    (inside : place + size_at s ≤ length m) (most : place + size_at s ≤ list_most) where
-  found : Readable b s
-  found = readable b s none
+
+abbrev pub at_place : Basis → ℕ → Cursor
+at_place b n = record { place = n; basis = b }
+
+module _ (c : Cursor) (s : List ℕ) (none : read_refusal c.basis s ≡ 0) (bytes : AllBytes s) (m : List ℕ) (low : header_size ≤ c.place)
+    (inside : c.place + size_at s ≤ length m) (most : c.place + size_at s ≤ list_most) where
+  found : Readable c.basis s
+  found = readable c.basis s none
 
   long : length (record_bytes (record_at s)) ≡ size_at s
   long = ap length (record_again s bytes found.whole) ∙ length-take-le (size_at s) s found.whole.fits
 
   -- the writer tries the kind that the reader found
-  kind-kept : off_kind b.version (kind_of (record_at s)) ≡ false
-  kind-kept = ap (off_kind b.version) (kind-found (kind_at s) s found.whole.known) ∙ found.kind
+  kind-kept : off_kind c.basis.version (kind_of (record_at s)) ≡ false
+  kind-kept = ap (off_kind c.basis.version) (kind-found (kind_at s) s found.whole.known) ∙ found.kind
 
-  done : (written_as 0 (place + length (record_bytes (record_at s))) b ≡ record_written m place b (record_at s))
-      × (put_at place (record_bytes (record_at s)) m ≡ record_list m place b (record_at s))
-  done =
+  unrefused : record_write_refusal (length m) c (record_at s) ≡ 0
+  unrefused =
       let n = long in
-      record_done m place b (record_at s)
-      (refusal-none (length m) place b (record_at s)
-      (record { basis = found.basis; kind = kind-kept; lawful = found.lawful; room = record { behind = low; inside = omega arith; most = omega arith } }))
+      refusal-none (length m) c (record_at s)
+      (record { basis = found.basis; kind = kind-kept; lawful = found.lawful; room = record { behind = low; inside = omega arith; most = omega arith } })
 
-  step-list : record_list m place b (record_at s) ≡ put_at place (take (size_at s) s) m
-  step-list = sym done.1 ∙ ap (λ (bs : List ℕ). put_at place bs m) (record_again s bytes found.whole)
+  step-list : record_list m c (record_at s) ≡ put_at c.place (take (size_at s) s) m
+  step-list = (record_done m c (record_at s) unrefused).1 ∙ ap (λ (bs : List ℕ). put_at c.place bs m) (record_again s bytes found.whole)
 
-  step-place : (record_written m place b (record_at s)).place ≡ place + size_at s
-  step-place = ap (λ (r : Written). r.place) (sym done.0) ∙ ap (λ (n : ℕ). place + n) long
+  step-written : record_written m c (record_at s) ≡ Ok (at_place c.basis (c.place + size_at s))
+  step-written = (record_done m c (record_at s) unrefused).0 ∙ ap (λ (n : ℕ). Ok (at_place c.basis (c.place + n))) long
 
 -- one record, then the rest behind it: put (take n s), then put (drop n s), is put s
 records_again : {b : Basis} {s : List ℕ} {rs : List Record} → Holds b s rs → AllBytes s → (m : List ℕ) (place : ℕ) → header_size ≤ place
-    → place + length s ≤ length m → place + length s ≤ list_most → records_list m place b rs ≡ put_at place s m
+    → place + length s ≤ length m → place + length s ≤ list_most → records_list m (at_place b place) rs ≡ put_at place s m
 unfolding records_list
 records_again {b} (last {s} none k all) bytes m place low inside most =
-    step-list b s none bytes m place low (omega arith) (omega arith)
+    step-list (at_place b place) s none bytes m low (omega arith) (omega arith)
     ∙ ap (λ (bs : List ℕ). put_at place bs m) (take_all (size_at s) s (omega arith))
 records_again {b} (more {s} {rs} none k p) bytes m place low inside most =
     let fits = (readable b s none).whole.fits in
     let n = length-take-le (size_at s) s fits in
     let d = length-drop (size_at s) s in
     let same = put_length m place (take (size_at s) s) (omega arith) in
-    ap₂ (λ (l : List ℕ) (i : ℕ). records_list l i b rs)
-    (step-list b s none bytes m place low (omega arith) (omega arith))
-    (step-place b s none bytes m place low (omega arith) (omega arith) ∙ ap (λ (i : ℕ). place + i) (sym n))
-    ∙ records_again p (drop-bytes (size_at s) s bytes) (put_at place (take (size_at s) s) m) (place + length (take (size_at s) s)) (omega arith) (omega arith) (omega arith)
+    ap₂ (λ (l : List ℕ) (a : Result Cursor ℕ). records_list l (moved_to (at_place b place) a) rs)
+    (step-list (at_place b place) s none bytes m low (omega arith) (omega arith))
+    (step-written (at_place b place) s none bytes m low (omega arith) (omega arith))
+    ∙ records_again p (drop-bytes (size_at s) s bytes) (put_at place (take (size_at s) s) m) (place + size_at s) (omega arith) (omega arith) (omega arith)
+    ∙ ap (λ (k : ℕ). put_at (place + k) (drop (size_at s) s) (put_at place (take (size_at s) s) m)) (sym n)
     ∙ put_put m place (take (size_at s) s) (drop (size_at s) s) (omega arith)
     ∙ ap (λ (bs : List ℕ). put_at place bs m) (take-append-drop (size_at s) s)
 
 -- no write is refused, and the place moves past each record
 answers_again : {b : Basis} {s : List ℕ} {rs : List Record} → Holds b s rs → AllBytes s → (m : List ℕ) (place : ℕ) → header_size ≤ place
     → place + length s ≤ length m → place + length s ≤ list_most
-    → records_written m place b rs ≡ written_as 0 (place + length s) b
+    → records_written m (at_place b place) rs ≡ Ok (at_place b (place + length s))
 unfolding records_written
 answers_again {b} (last {s} none k all) bytes m place low inside most =
-    let a = (done b s none bytes m place low (omega arith) (omega arith)).0 in
-    let n = long b s none bytes m place low (omega arith) (omega arith) in
-    rw (← a) (λ i. written_as 0 (place + (n ∙ sym all) i) b)
+    rw (step-written (at_place b place) s none bytes m low (omega arith) (omega arith)) (ap (λ (n : ℕ). Ok (at_place b (place + n))) (sym all))
 answers_again {b} (more {s} {rs} none k p) bytes m place low inside most =
     let fits = (readable b s none).whole.fits in
     let d = length-drop (size_at s) s in
-    let a = (done b s none bytes m place low (omega arith) (omega arith)).0 in
-    let n = long b s none bytes m place low (omega arith) (omega arith) in
-    let e = step-list b s none bytes m place low (omega arith) (omega arith) in
     let same = put_length m place (take (size_at s) s) (omega (arith, length-take-le (size_at s) s fits)) in
     let all : place + size_at s + length (drop (size_at s) s) ≡ place + length s = omega arith in
-    rw (← a, n, e)
+    rw (step-written (at_place b place) s none bytes m low (omega arith) (omega arith), step-list (at_place b place) s none bytes m low (omega arith) (omega arith))
     (answers_again p (drop-bytes (size_at s) s bytes) (put_at place (take (size_at s) s) m) (place + size_at s) (omega arith) (omega arith) (omega arith)
-    ∙ (λ i. written_as 0 (all i) b))
+    ∙ ap (λ (n : ℕ). Ok (at_place b n)) all)
 
 -- ---- a whole list
-module _ (tests : List (Bool × ℕ)) (l : List ℕ) (rs : List Record) (bytes : AllBytes l) (e : records_of tests l ≡ accepted rs) (m : List ℕ) (place : ℕ) (b : Basis) where
-  -- written into a list that is as long at least, from any place and with any basis held, in its own version:
+module _ (tests : List (Bool × ℕ)) (l : List ℕ) (rs : List Record) (bytes : AllBytes l) (e : records_of tests l ≡ accepted rs) (m : List ℕ) where
+  -- written into a list that is as long at least, wherever the writer stood, in its own version:
   -- the header at 0, the records behind it, and take ++ drop is the whole
-  pub written_again : length l ≤ length m → list_written m place b (header_at l) rs ≡ l ++ drop (length l) m
+  pub written_again : (c : Cursor) → length l ≤ length m → list_written m c (header_at l) rs ≡ l ++ drop (length l) m
   unfolding list_written
-  written_again fits =
+  written_again c fits =
       let p = headed tests l (list-headed tests l rs e) in
-      let done = header_done m place b (header_at l) (header-none (length m) (header_at l) p.basis (omega (arith, p.least))) in
+      let done = header_done m (header_at l) (header-none (length m) (header_at l) p.basis (omega (arith, p.least))) in
       let front : header_size ≡ 0 + length (take header_size l) = omega (arith, length-take-le header_size l p.least) in
       let rest = length-drop header_size l in
       let same = put_length m 0 (take header_size l) (omega (arith, p.least)) in
-      ap₂ (λ (x : List ℕ) (r : Written). records_list x r.place (held_by r) rs)
-      (sym done.1 ∙ ap (λ (bs : List ℕ). put_at 0 bs m) (header-again l bytes p))
-      (sym done.0)
+      ap₂ (λ (x : List ℕ) (a : Result Cursor ℕ). records_list x (moved_to c a) rs)
+      (done.1 ∙ ap (λ (bs : List ℕ). put_at 0 bs m) (header-again l bytes p))
+      done.0
       ∙ records_again (list_holds tests l rs e) (drop-bytes header_size l bytes) (put_at 0 (take header_size l) m) header_size (omega arith) (omega (arith, p.least)) (omega (arith, p.least, p.most))
       ∙ ap (λ (k : ℕ). put_at k (drop header_size l) (put_at 0 (take header_size l) m)) front
       ∙ put_put m 0 (take header_size l) (drop header_size l) (omega (arith, p.least))
@@ -201,19 +200,19 @@ module _ (tests : List (Bool × ℕ)) (l : List ℕ) (rs : List Record) (bytes :
       ∙ ap (λ (k : ℕ). l ++ drop k m) (zero-add (length l))
 
   -- written into a list of its own length
-  pub own_bytes : length m ≡ length l → list_written m place b (header_at l) rs ≡ l
-  own_bytes same =
-      written_again (omega arith) ∙ ap (λ (bs : List ℕ). l ++ bs) (ap (λ (k : ℕ). drop k m) (sym same) ∙ drop-length m) ∙ append-nil l
+  pub own_bytes : (c : Cursor) → length m ≡ length l → list_written m c (header_at l) rs ≡ l
+  own_bytes c same =
+      written_again c (omega arith) ∙ ap (λ (bs : List ℕ). l ++ bs) (ap (λ (k : ℕ). drop k m) (sym same) ∙ drop-length m) ∙ append-nil l
 
   -- no write is refused, the place ends behind the list, and its own version, W and H are held
-  pub answered-again : length l ≤ length m → writer_answer m place b (header_at l) rs ≡ written_as 0 (length l) (basis_of (header_at l))
+  pub answered-again : length l ≤ length m → writer_answer m (header_at l) rs ≡ Ok (at_place (basis_of (header_at l)) (length l))
   unfolding writer_answer
   answered-again fits =
       let p = headed tests l (list-headed tests l rs e) in
-      let done = header_done m place b (header_at l) (header-none (length m) (header_at l) p.basis (omega (arith, p.least))) in
+      let done = header_done m (header_at l) (header-none (length m) (header_at l) p.basis (omega (arith, p.least))) in
       let rest = length-drop header_size l in
       let same = put_length m 0 (take header_size l) (omega (arith, p.least, length-take-le header_size l p.least)) in
       let all : header_size + length (drop header_size l) ≡ length l = omega (arith, p.least) in
-      rw (← done.0, ← done.1, header-again l bytes p)
+      rw (done.0, done.1, header-again l bytes p)
       (answers_again (list_holds tests l rs e) (drop-bytes header_size l bytes) (put_at 0 (take header_size l) m) header_size (omega arith) (omega arith) (omega (arith, p.most))
-      ∙ (λ i. written_as 0 (all i) (basis_of (header_at l))))
+      ∙ ap (λ (n : ℕ). Ok (at_place (basis_of (header_at l)) n)) all)

@@ -1,3 +1,4 @@
 -- Drawing lists as bytes.
 pub mod List
+pub mod Refused
 pub mod inner

@@ -1,5 +1,5 @@
 -- "A list is tried": the refusals of a whole list in their order, each with its place, and the records and the ceiling of an accepted one (R6.6, R8.2, R8.3).
-use Rattle.std.specs.Prelude.{Bool, not, cond, ◌&&◌, List, [], ◌∷◌, ◌≡◌, ℕ, zero, suc, ◌+◌, ◌*◌, ◌<◌, ltb, eqb, length, get_or, drop}
+use Rattle.std.specs.Prelude.{Bool, not, cond, ◌&&◌, List, [], ◌∷◌, ◌≡◌, ℕ, zero, suc, ◌+◌, ◌*◌, ◌<◌, ltb, eqb, length, get_or, drop, Result, Ok, Err}
 use Rattle.lights.specs.Lights.{fit}
 use Rattle.limits.specs.Limits.{first, tried, basis_refusal}
 use Rattle.shapes.specs.declared.Basis.{Basis}
@@ -9,8 +9,7 @@ use Rattle.records.specs.Read.{read_refusal}
 use Rattle.settings.specs.Drawing.{drawings}
 use Rattle.settings.specs.Ceiling.{ceiling}
 use Rattle.format.specs.declared.Header.{Header}
-use Rattle.lists.specs.declared.check.Checked.{Checked}
-use Rattle.lists.specs.declared.check.Checked.TheVariants.{Accepted, Refused}
+use Rattle.lists.specs.declared.check.Accepted.{Accepted}
 
 -- the records of a list, the end record last; or the number of its first refusal and the place
 pub data Records : Type 0 where
@@ -63,23 +62,23 @@ records_of tests s =
     cond (ltb 0 (header_refusal tests s)) (refused (header_refusal tests s) 0)
     (records_from (suc (length s)) (basis_of (header_at s)) (drop header_size s) header_size)
 
--- what its check answers: the header and the ceiling of the drawings of an accepted list; a refused one has none
-abbrev pub checked_as : Header → Records → Checked
-checked_as d (accepted rs) = Accepted d (ceiling (drawings (basis_of d) rs))
-checked_as d (refused f place) = Refused f place
+-- what its check answers: the header and the ceiling of the drawings of an accepted list; the number of a refusal and its place
+abbrev pub checked_as : Header → Records → Result Accepted (ℕ × ℕ)
+checked_as d (accepted rs) = Ok (record { header = d; ceiling = ceiling (drawings (basis_of d) rs) })
+checked_as d (refused f place) = Err (f, place)
 
 -- a list s for a page of n bytes in some lights
 abbrev pub page_records : List ℕ → ℕ → List ℕ → Records
 page_records s n lights = records_of (page_tests (header_at s) n lights) s
 
-abbrev pub checked_of : List ℕ → ℕ → List ℕ → Checked
+abbrev pub checked_of : List ℕ → ℕ → List ℕ → Result Accepted (ℕ × ℕ)
 checked_of s n lights = checked_as (header_at s) (page_records s n lights)
 
 -- without a page: 21 and 32 are not tried
 abbrev pub pageless_records : List ℕ → Records
 pageless_records s = records_of [] s
 
-abbrev pub checked_without_page : List ℕ → Checked
+abbrev pub checked_without_page : List ℕ → Result Accepted (ℕ × ℕ)
 checked_without_page s = checked_as (header_at s) (pageless_records s)
 
 -- each element of a list is a byte, as those of a lent one are

@@ -1,129 +1,121 @@
 // Checks a whole list.
 ghost use Rattle.std.specs.Prelude.{◌≡◌, List, [], ℕ, suc, ◌≤◌, length, drop};
-ghost use Rattle.lights.specs.inner.Fit.{IsKind};
+ghost use Rattle.lights.specs.inner.Fit.{Spaced};
 ghost use Rattle.limits.specs.Limits.{first, basis_refusal};
-ghost use Rattle.format.specs.Format.{list_most, header_size, basis_of};
+ghost use Rattle.limits.specs.Refusal.{told, numbered, unless};
+ghost use Rattle.format.specs.Format.{list_most, header_size, header_at, basis_of};
 ghost use Rattle.lists.specs.List.{has_mark, header_refusal, page_tests, records_from, checked_as, checked_of, checked_without_page};
+ghost use Rattle.lists.specs.Refused.{numbered_at};
 
+use crate::RefusedAt;
 use decoding::read_header;
-use format::{HEADER_SIZE, Header, LIST_MOST, basis_of};
-use lights::fit::{Kind, kind_of};
+use format::{HEADER_SIZE, Header, Kind, LIST_MOST};
+use lights::fit::{Steps, steps_of};
+use limits::{Refusal, check_basis};
 use records::read::{next_place, try_front};
+use shapes::Basis;
 
-// What the check answers: the header of an accepted list and the ceiling of its touches, or the number of the refusal and its place.
+// What is told of an accepted list: its header, and the ceiling of its touches.
 #[derive(Clone, Copy)]
-pub enum Checked {
-    Accepted { header: Header, ceiling: u64 },
-    Refused { refusal: u8, place: usize },
+pub struct Accepted {
+    pub header: Header,
+    pub ceiling: u64,
 }
 
-// Whether the letters INK stand at the front.
 fn has_mark(list: &[u8]) -> bool
-    requires { header_size ≤ length list.now }
     ensures { result ≡ has_mark list.now }
 {
-    if list[0] != b'I' {
-        return false;
-    }
-    if list[1] != b'N' {
-        return false;
-    }
-    list[2] == b'K'
+    list.starts_with(b"INK")
 }
 
-// The first refusal of a page of so many bytes and of lights of a kind, 21 or 32, or 0.
-fn page_refusal(header: Header, page: usize, kind: Kind) -> u8
-    ensures { (lights : List ℕ) → IsKind lights kind → result ≡ first (page_tests header page lights) }
-{
-    if (page as u64) < numbers::product(header.w as u64, header.h as u64) {
-        return 21;
-    }
-    if !kind.fit {
-        return 32;
-    }
-    0
-}
-
-// The first refusal of the header, or 0.
-fn header_refusal(list: &[u8]) -> u8
-    ensures { result ≡ header_refusal [] list.now }
+// The header, where nothing of it is refused.
+#[tactic(auto, using(std::proofs::lemmas::Bool::Decides::nat_tests), unfolding(crate::specs::List::header_refusal))]
+fn check_header(list: &[u8]) -> Result<Header, Refusal>
+    ensures { numbered result ≡ unless (header_refusal [] list.now) (header_at list.now) }
 {
     if LIST_MOST < list.len() {
-        return 12;
+        return Err(Refusal::Long);
     }
     if list.len() < HEADER_SIZE {
-        return 5;
+        return Err(Refusal::Short);
     }
     if !has_mark(list) {
-        return 1;
+        return Err(Refusal::Mark);
     }
-    limits::basis_refusal(basis_of(read_header(list)))
+    let header = read_header(list);
+    check_basis(Basis::from(header))?;
+    Ok(header)
+}
+
+// A page of so many bytes, and lights by what is known of their steps.
+fn check_page(header: Header, page: usize, steps: Option<Steps>) -> Result<(), Refusal>
+    ensures { (lights : List ℕ) → Spaced lights steps → told result ≡ first (page_tests header page lights) }
+{
+    if (page as u64) < numbers::product(u64::from(header.w), u64::from(header.h)) {
+        return Err(Refusal::Room);
+    }
+    if steps.is_none() {
+        return Err(Refusal::Lights);
+    }
+    Ok(())
 }
 
 // Tries the records one after the other, and adds up what the shapes count, each under the clip in force.
-fn check_records(list: &[u8], header: Header) -> Checked
+fn check_records(list: &[u8], header: Header) -> Result<Accepted, RefusedAt>
     requires { (header_size ≤ length list.now) × (length list.now ≤ list_most) × (basis_refusal (basis_of header) ≡ 0) }
-    ensures { result ≡ checked_as header (records_from (suc (length list.now)) (basis_of header) (drop header_size list.now) header_size) }
+    ensures { numbered_at result ≡ checked_as header (records_from (suc (length list.now)) (basis_of header) (drop header_size list.now) header_size) }
 {
-    let basis = basis_of(header);
+    let basis = Basis::from(header);
     let mut place = HEADER_SIZE;
-    let mut pixels = numbers::product(header.w as u64, header.h as u64);
+    let mut pixels = numbers::product(u64::from(header.w), u64::from(header.h));
     let mut ceiling: u64 = 0;
     loop {
-        let tried = try_front(&list[place..], basis, pixels);
-        if 0 < tried.refusal {
-            return Checked::Refused {
-                refusal: tried.refusal,
-                place,
-            };
-        }
-        ceiling += tried.ceiling;
-        pixels = tried.pixels;
+        let counted = match try_front(&list[place..], basis, pixels) {
+            Ok(counted) => counted,
+            Err(refusal) => return Err(RefusedAt { refusal, place }),
+        };
+        ceiling += counted.ceiling;
+        pixels = counted.pixels;
         let kind = list[place];
         place = next_place(list, place);
-        if kind == 0 {
+        if kind == u8::from(Kind::End) {
             if place < list.len() {
-                return Checked::Refused { refusal: 6, place };
+                let refusal = Refusal::Trailing;
+                return Err(RefusedAt { refusal, place });
             }
-            return Checked::Accepted { header, ceiling };
+            return Ok(Accepted { header, ceiling });
         }
     }
 }
 
-// Checks a list for a page of so many bytes and for lights that have been tried: their kind is known, and they are not read.
-pub fn check_tried(list: &[u8], page: usize, lights: &[u16], kind: Kind) -> Checked
-    requires { IsKind lights.now kind }
-    ensures { result ≡ checked_of list.now page lights.now }
+// Checks a list for a page of so many bytes and for lights that have been tried: their steps are known, and they are not read.
+#[tactic(auto, using(std::proofs::lemmas::Bool::Decides::nat_tests, crate::proofs::Headers::header_then, crate::proofs::Headers::headed), unfolding(crate::specs::List::records_of))]
+pub fn check_tried(
+    list: &[u8],
+    page: usize,
+    lights: &[u16],
+    steps: Option<Steps>,
+) -> Result<Accepted, RefusedAt>
+    requires { Spaced lights.now steps }
+    ensures { numbered_at result ≡ checked_of list.now page lights.now }
 {
-    let refusal = header_refusal(list);
-    if 0 < refusal {
-        return Checked::Refused { refusal, place: 0 };
-    }
-    let header = read_header(list);
-    let room = page_refusal(header, page, kind);
-    if 0 < room {
-        return Checked::Refused {
-            refusal: room,
-            place: 0,
-        };
-    }
+    let header = check_header(list)?;
+    check_page(header, page, steps)?;
     check_records(list, header)
 }
 
 // Checks a list for a page of so many bytes in some lights.
-pub fn check_list(list: &[u8], page: usize, lights: &[u16]) -> Checked
-    ensures { result ≡ checked_of list.now page lights.now }
+pub fn check_list(list: &[u8], page: usize, lights: &[u16]) -> Result<Accepted, RefusedAt>
+    ensures { numbered_at result ≡ checked_of list.now page lights.now }
 {
-    check_tried(list, page, lights, kind_of(lights))
+    check_tried(list, page, lights, steps_of(lights))
 }
 
 // Checks a list without a page.
-pub fn check_without_page(list: &[u8]) -> Checked
-    ensures { result ≡ checked_without_page list.now }
+#[tactic(auto, using(std::proofs::lemmas::Bool::Decides::nat_tests, crate::proofs::Headers::header_then, crate::proofs::Headers::headed), unfolding(crate::specs::List::records_of))]
+pub fn check_without_page(list: &[u8]) -> Result<Accepted, RefusedAt>
+    ensures { numbered_at result ≡ checked_without_page list.now }
 {
-    let refusal = header_refusal(list);
-    if 0 < refusal {
-        return Checked::Refused { refusal, place: 0 };
-    }
-    check_records(list, read_header(list))
+    let header = check_header(list)?;
+    check_records(list, header)
 }

@@ -7,19 +7,17 @@ use native.Mathlib.Omega.{arith}
 use Rattle.numbers.specs.inner.Offset.{origin}
 use Rattle.numbers.proofs.Order.{lt_or_le, eq_or_ne}
 use Rattle.page.specs.inner.Paint.{clipped}
-use Rattle.lights.specs.inner.Palette.{lights_in}
-use Rattle.page.specs.inner.Ink.{ink_of}
 use Rattle.page.specs.declared.View.{View}
 use Rattle.page.proofs.Clip.{Inside, Outside, left_of_lem, right_of, above, below, in_or_out, clip_in, clip_out, clip_shrink, clip_zero, Either, Join, clip-columns, clip-rows}
 use Rattle.page.proofs.Drawn.{drawn_ext}
 use Rattle.chords.specs.inner.Circle.{apart}
-use Rattle.rings.specs.inner.Placed.{Inked, between_on, RingDrawn}
-use Rattle.rings.specs.inner.Heights.{between, Heights, Measured}
-use Rattle.mirrored.specs.inner.Mirrored.{Sides, row_sides, between_in, SidesDrawn, FilledSides, Quarters, Enclosed, quartered, QuartersDrawn}
+use Rattle.rings.specs.inner.Placed.{around, cover_on, RingDrawn}
+use Rattle.rings.specs.inner.Circles.{cover, Measured}
+use Rattle.mirrored.specs.inner.Mirrored.{Sides, row_sides, cover_in, SidesDrawn, FilledSides, Quarters, Enclosed, QuartersDrawn}
+use Rattle.rings.specs.declared.Circles.{Circles}
 use Rattle.rings.specs.declared.Ring.{Ring}
 use Rattle.rings.specs.declared.Widths.{Widths}
 use Rattle.rings.proofs.Chords.{between_far}
-use Rattle.rings.proofs.Placed.{whole_ink}
 
 -- parts in the other order
 pub join_swap : {n₁ n₂ n : ℕ → ℕ → ℕ} → Join n₁ n₂ n → Join n₂ n₁ n
@@ -84,16 +82,16 @@ module _ (ring : Ring) (n : ℕ → ℕ → ℕ) (y p q d : ℕ) (whole : (a : �
       outside o = clip_out _ y _ (y + 1) _ x z o ∙ sym (clip_out p y q (y + 1) n _ z (far o))
 
 -- a row that is drawn p to q away from the centre's column is drawn in the clip, if nothing of it lies nearer or further
-pub sides_row : {view : View} {ink : ℕ → ℕ → ℕ} {l m : List ℕ} {t : ℕ} (ring : Ring) (Y Z : ℕ → ℕ) (y p q : ℕ) → Sides view ring y q
-    → ((a : ℕ) → a < p → between_in Y Z ring a y ≡ 0)
-    → ((a : ℕ) → q ≤ a → between_in Y Z ring a y ≡ 0)
-    → SidesDrawn ink view ring Y Z y p q l m t
-    → RingDrawn ink view ring Y Z view.x0 y view.x1 (y + 1) l m t
-sides_row {view} ring Y Z y p q sides near far = drawn_ext (clipped view.x0 y view.x1 (y + 1) (between_on Y Z ring)) same
+pub sides_row : {view : View} {ink : ℕ → ℕ → ℕ} {l m : List ℕ} {t : ℕ} (circles : Circles) (y p q : ℕ) → Sides view circles.ring y q
+    → ((a : ℕ) → a < p → cover_in circles a y ≡ 0)
+    → ((a : ℕ) → q ≤ a → cover_in circles a y ≡ 0)
+    → SidesDrawn ink view circles y p q l m t
+    → RingDrawn ink view circles view.x0 y view.x1 (y + 1) l m t
+sides_row {view} circles y p q sides near far = drawn_ext (clipped view.x0 y view.x1 (y + 1) (cover_on circles)) same
   where
-    inside : (x z : ℕ) → Inside view.x0 y view.x1 (y + 1) x z → row_sides ring (between_in Y Z ring) y p q x z ≡ between_on Y Z ring x z
+    inside : (x z : ℕ) → Inside view.x0 y view.x1 (y + 1) x z → row_sides circles.ring (cover_in circles) y p q x z ≡ cover_on circles x z
     inside x z i =
-        let a = apart ring.cx (x + origin) in
+        let a = apart circles.ring.cx (x + origin) in
         let e : y ≡ z = omega arith in
         ⊎_elim
         (λ h. clip_out p y q (y + 1) _ a z (left_of_lem h) ∙ sym (rw e at (near a h)))
@@ -103,25 +101,25 @@ sides_row {view} ring Y Z y p q sides near far = drawn_ext (clipped view.x0 y vi
         (lt_or_le a q))
         (lt_or_le a p)
 
-    beyond : (x z : ℕ) → Outside view.x0 y view.x1 (y + 1) x z → Outside p y q (y + 1) (apart ring.cx (x + origin)) z
+    beyond : (x z : ℕ) → Outside view.x0 y view.x1 (y + 1) x z → Outside p y q (y + 1) (apart circles.ring.cx (x + origin)) z
     beyond x z (above h) = above h
     beyond x z (below h) = below h
     beyond x z (left_of_lem h) = right_of (omega (arith, sides.left))
     beyond x z (right_of h) = right_of (omega (arith, sides.right))
 
-    same : (x z : ℕ) → row_sides ring (between_in Y Z ring) y p q x z ≡ clipped view.x0 y view.x1 (y + 1) (between_on Y Z ring) x z
+    same : (x z : ℕ) → row_sides circles.ring (cover_in circles) y p q x z ≡ clipped view.x0 y view.x1 (y + 1) (cover_on circles) x z
     same x z =
         ⊎_elim
-        (λ i. inside x z i ∙ sym (clip_in _ y _ (y + 1) (between_on Y Z ring) x z i))
-        (λ o. clip_out p y q (y + 1) _ _ z (beyond x z o) ∙ sym (clip_out _ y _ (y + 1) (between_on Y Z ring) x z o))
+        (λ i. inside x z i ∙ sym (clip_in _ y _ (y + 1) (cover_on circles) x z i))
+        (λ o. clip_out p y q (y + 1) _ _ z (beyond x z o) ∙ sym (clip_out _ y _ (y + 1) (cover_on circles) x z o))
         (in_or_out view.x0 y view.x1 (y + 1) x z)
 
 -- the whole part of a measured row, filled, is drawn
-pub filled-drawn : {palette l m : List ℕ} {t : ℕ} (view : View) (ring : Ring) (Y Z : ℕ → ℕ) (R b y : ℕ) (row : Widths) → Inked palette ring → b ≡ apart ring.cy (y + origin)
-    → Measured Y Z R b row
-    → FilledSides view ring y row.inner row.whole l m t
-    → SidesDrawn (ink_of (lights_in palette) ring.level 512) view ring Y Z y row.inner row.whole l m t
-filled-drawn {palette} view ring Y Z R b y row k e m f = f (ink_of (lights_in palette) ring.level 512) (between_in Y Z ring) 512 (omega arith) (whole_ink k) (rw e at m).whole-all
+pub filled-drawn : {ink : ℕ → ℕ → ℕ} {d t b : ℕ} {l m : List ℕ} {row : Widths} (view : View) (circles : Circles) (y : ℕ) → d ≡ 512 → b ≡ apart circles.ring.cy (y + origin)
+    → Measured circles b row
+    → FilledSides ink d view circles.ring y row.inner row.whole l m t
+    → SidesDrawn ink view circles y row.inner row.whole l m t
+filled-drawn view circles y whole e m f = f (cover_in circles) (rw whole (rw e at m).whole-all)
 
 -- ---- the two rows at one distance
 
@@ -156,11 +154,11 @@ module _ {view : View} {ring : Ring} (n : ℕ → ℕ → ℕ) {b y z d : ℕ} (
   other_row : (a r k : ℕ) → (r ≡ k → ⊥) → clipped p k q (k + 1) rowed a r ≡ 0
   other_row a r k ne = clip_out p k q (k + 1) rowed a r (⊎_elim above (λ h. below (omega arith)) (lt_or_le r k))
 
-  pub rows_join : Join (row_sides ring rowed y p q) (row_sides ring rowed z p q) (quartered ring (clipped p b q (b + 1) n))
+  pub rows_join : Join (row_sides ring rowed y p q) (row_sides ring rowed z p q) (around ring (clipped p b q (b + 1) n))
   rows_join x r = go (eq_or_ne r y) (eq_or_ne r z)
     where
       go : (r ≡ y) ⊎ (r ≡ y → ⊥) → (r ≡ z) ⊎ (r ≡ z → ⊥)
-          → Either (row_sides ring rowed y p q x r) (row_sides ring rowed z p q x r) (quartered ring (clipped p b q (b + 1) n) x r)
+          → Either (row_sides ring rowed y p q x r) (row_sides ring rowed z p q x r) (around ring (clipped p b q (b + 1) n) x r)
       go (inl e) _ =
           let a = apart ring.cx (x + origin) in
           inr (
@@ -187,14 +185,14 @@ module _ {view : View} {ring : Ring} (n : ℕ → ℕ → ℕ) {b y z d : ℕ} (
 
 -- cut at distance a from the centre's column, or from its row
 pub quarters_cut : (ring : Ring) (n : ℕ → ℕ → ℕ) (p b q c a : ℕ) → p ≤ a → a ≤ q
-    → Join (quartered ring (clipped p b a c n)) (quartered ring (clipped a b q c n)) (quartered ring (clipped p b q c n))
+    → Join (around ring (clipped p b a c n)) (around ring (clipped a b q c n)) (around ring (clipped p b q c n))
 quarters_cut ring n p b q c a h k x y = clip-columns p b q c a n h k (apart ring.cx (x + origin)) (apart ring.cy (y + origin))
 
 pub quarters_more : (ring : Ring) (n : ℕ → ℕ → ℕ) (p b q c a : ℕ) → b ≤ a → a ≤ c
-    → Join (quartered ring (clipped p b q a n)) (quartered ring (clipped p a q c n)) (quartered ring (clipped p b q c n))
+    → Join (around ring (clipped p b q a n)) (around ring (clipped p a q c n)) (around ring (clipped p b q c n))
 quarters_more ring n p b q c a h k x y = clip-rows p b q c a n h k (apart ring.cx (x + origin)) (apart ring.cy (y + origin))
 
-pub quarters_none : (ring : Ring) (n : ℕ → ℕ → ℕ) (p b q c : ℕ) → (q ≤ p) ⊎ (c ≤ b) → (x y : ℕ) → quartered ring (clipped p b q c n) x y ≡ 0
+pub quarters_none : (ring : Ring) (n : ℕ → ℕ → ℕ) (p b q c : ℕ) → (q ≤ p) ⊎ (c ≤ b) → (x y : ℕ) → around ring (clipped p b q c n) x y ≡ 0
 quarters_none ring n p b q c e x y = clip_zero p b q c n (none e) (apart ring.cx (x + origin)) (apart ring.cy (y + origin))
   where
     none : (q ≤ p) ⊎ (c ≤ b) → (u v : ℕ) → Inside p b q c u v → n u v ≡ 0
@@ -202,54 +200,54 @@ quarters_none ring n p b q c e x y = clip_zero p b q c n (none e) (apart ring.cx
     none (inr h) u v i = absurd (omega arith)
 
 -- the rows at distance b, drawn p to q away, if nothing of them lies nearer or further
-pub quarters_row : {ink : ℕ → ℕ → ℕ} {l m : List ℕ} {t : ℕ} (view : View) (ring : Ring) (Y Z : ℕ → ℕ) (b p q R : ℕ) → q ≤ R
-    → ((a : ℕ) → a < p → between Y Z a b ≡ 0)
-    → ((a : ℕ) → q ≤ a → between Y Z a b ≡ 0)
-    → QuartersDrawn ink view ring Y Z p b q (b + 1) l m t
-    → QuartersDrawn ink view ring Y Z 0 b R (b + 1) l m t
-quarters_row view ring Y Z b p q R h near far =
-    drawn_ext (quartered ring (clipped 0 b R (b + 1) (between Y Z)))
-    (λ x y. clip_shrink 0 b R (b + 1) p b q (b + 1) (between Y Z) (omega arith) (omega arith) h (omega arith) none (apart ring.cx (x + origin)) (apart ring.cy (y + origin)))
+pub quarters_row : {ink : ℕ → ℕ → ℕ} {l m : List ℕ} {t : ℕ} (view : View) (circles : Circles) (b p q R : ℕ) → q ≤ R
+    → ((a : ℕ) → a < p → cover circles a b ≡ 0)
+    → ((a : ℕ) → q ≤ a → cover circles a b ≡ 0)
+    → QuartersDrawn ink view circles p b q (b + 1) l m t
+    → QuartersDrawn ink view circles 0 b R (b + 1) l m t
+quarters_row view circles b p q R h near far =
+    drawn_ext (around circles.ring (clipped 0 b R (b + 1) (cover circles)))
+    (λ x y. clip_shrink 0 b R (b + 1) p b q (b + 1) (cover circles) (omega arith) (omega arith) h (omega arith) none (apart circles.ring.cx (x + origin)) (apart circles.ring.cy (y + origin)))
   where
-    none : (u v : ℕ) → Inside 0 b R (b + 1) u v → Outside p b q (b + 1) u v → between Y Z u v ≡ 0
+    none : (u v : ℕ) → Inside 0 b R (b + 1) u v → Outside p b q (b + 1) u v → cover circles u v ≡ 0
     none u v i (left_of_lem k) = let e : b ≡ v = omega arith in rw e at (near u k)
     none u v i (right_of k) = let e : b ≡ v = omega arith in rw e at (far u k)
     none u v i (above k) = absurd (omega arith)
     none u v i (below k) = absurd (omega arith)
 
 -- a ring that the clip has whole
-pub enclosed_drawn : {view : View} {ink : ℕ → ℕ → ℕ} {l m : List ℕ} {t : ℕ} (ring : Ring) (Y Z : ℕ → ℕ) → Enclosed view ring → Heights Y ring.radius
-    → QuartersDrawn ink view ring Y Z 0 0 ring.radius ring.radius l m t
-    → RingDrawn ink view ring Y Z view.x0 view.y0 view.x1 view.y1 l m t
-enclosed_drawn {view} ring Y Z inside hs = drawn_ext (clipped view.x0 view.y0 view.x1 view.y1 (between_on Y Z ring)) same
+pub enclosed_drawn : {view : View} {ink : ℕ → ℕ → ℕ} {l m : List ℕ} {t : ℕ} (circles : Circles) → Enclosed view circles.ring
+    → QuartersDrawn ink view circles 0 0 circles.ring.radius circles.ring.radius l m t
+    → RingDrawn ink view circles view.x0 view.y0 view.x1 view.y1 l m t
+enclosed_drawn {view} circles inside = drawn_ext (clipped view.x0 view.y0 view.x1 view.y1 (cover_on circles)) same
   where
     -- nothing is covered from the radius on
-    none : (x y : ℕ) → Outside 0 0 ring.radius ring.radius (apart ring.cx (x + origin)) (apart ring.cy (y + origin))
-        → between_on Y Z ring x y ≡ 0
+    none : (x y : ℕ) → Outside 0 0 circles.ring.radius circles.ring.radius (apart circles.ring.cx (x + origin)) (apart circles.ring.cy (y + origin))
+        → cover_on circles x y ≡ 0
     none x y (left_of_lem h) = absurd (omega arith)
-    none x y (right_of h) = between_far hs Z _ _ (inl h)
+    none x y (right_of h) = between_far circles.nested.outer _ _ _ (inl h)
     none x y (above h) = absurd (omega arith)
-    none x y (below h) = between_far hs Z _ _ (inr h)
+    none x y (below h) = between_far circles.nested.outer _ _ _ (inr h)
 
     beyond : (x y : ℕ) → Outside view.x0 view.y0 view.x1 view.y1 x y
-        → Outside 0 0 ring.radius ring.radius (apart ring.cx (x + origin)) (apart ring.cy (y + origin))
+        → Outside 0 0 circles.ring.radius circles.ring.radius (apart circles.ring.cx (x + origin)) (apart circles.ring.cy (y + origin))
     beyond x y (left_of_lem h) = right_of (omega (arith, inside.left))
     beyond x y (right_of h) = right_of (omega (arith, inside.right))
     beyond x y (above h) = below (omega (arith, inside.top))
     beyond x y (below h) = below (omega (arith, inside.bottom))
 
     within : (x y : ℕ) → Inside view.x0 view.y0 view.x1 view.y1 x y
-        → quartered ring (clipped 0 0 ring.radius ring.radius (between Y Z)) x y ≡ between_on Y Z ring x y
+        → around circles.ring (clipped 0 0 circles.ring.radius circles.ring.radius (cover circles)) x y ≡ cover_on circles x y
     within x y i =
         ⊎_elim
-        (clip_in 0 0 ring.radius ring.radius (between Y Z) _ _)
-        (λ o. clip_out 0 0 ring.radius ring.radius (between Y Z) _ _ o ∙ sym (none x y o))
-        (in_or_out 0 0 ring.radius ring.radius (apart ring.cx (x + origin)) (apart ring.cy (y + origin)))
+        (clip_in 0 0 circles.ring.radius circles.ring.radius (cover circles) _ _)
+        (λ o. clip_out 0 0 circles.ring.radius circles.ring.radius (cover circles) _ _ o ∙ sym (none x y o))
+        (in_or_out 0 0 circles.ring.radius circles.ring.radius (apart circles.ring.cx (x + origin)) (apart circles.ring.cy (y + origin)))
 
-    same : (x y : ℕ) → quartered ring (clipped 0 0 ring.radius ring.radius (between Y Z)) x y
-        ≡ clipped view.x0 view.y0 view.x1 view.y1 (between_on Y Z ring) x y
+    same : (x y : ℕ) → around circles.ring (clipped 0 0 circles.ring.radius circles.ring.radius (cover circles)) x y
+        ≡ clipped view.x0 view.y0 view.x1 view.y1 (cover_on circles) x y
     same x y =
         ⊎_elim
-        (λ i. within x y i ∙ sym (clip_in _ _ _ _ (between_on Y Z ring) x y i))
-        (λ o. clip_out 0 0 ring.radius ring.radius (between Y Z) _ _ (beyond x y o) ∙ sym (clip_out _ _ _ _ (between_on Y Z ring) x y o))
+        (λ i. within x y i ∙ sym (clip_in _ _ _ _ (cover_on circles) x y i))
+        (λ o. clip_out 0 0 circles.ring.radius circles.ring.radius (cover circles) _ _ (beyond x y o) ∙ sym (clip_out _ _ _ _ (cover_on circles) x y o))
         (in_or_out view.x0 view.y0 view.x1 view.y1 x y)

@@ -12,8 +12,10 @@ use Rattle.page.specs.declared.View.{View}
 use Rattle.page.proofs.Clip.{Inside, Outside, left_of_lem, right_of, above, below, in_or_out, clip_in, clip_out, clip_ext, Either, Join}
 use Rattle.page.proofs.Drawn.{drawn-none, drawn_ext, drawn_join, drawn_one, drawn-length}
 use Rattle.chords.specs.inner.Circle.{apart}
-use Rattle.rings.specs.inner.Heights.{between}
-use Rattle.mirrored.specs.inner.Mirrored.{dotted, paired, Sides, row_sides, between_in, Quarters, quartered}
+use Rattle.rings.specs.inner.Circles.{cover}
+use Rattle.rings.specs.inner.Placed.{around}
+use Rattle.rings.specs.declared.Circles.{Circles}
+use Rattle.mirrored.specs.inner.Mirrored.{dotted, paired, Sides, row_sides, cover_in, Quarters}
 use Rattle.rings.specs.declared.Ring.{Ring}
 use Rattle.mirrored.proofs.Mirrored.{sides_cut, sides_none, lower-at, upper-at, rows_join, quarters_cut, quarters_none}
 
@@ -161,55 +163,55 @@ module _ {view : View} {ink : ℕ → ℕ → ℕ} {part : ℕ → ℕ → ℕ �
 -- ---- on both sides of a row
 
 -- what of row y lies from to a away is drawn
-abbrev pub SidesTo : (ℕ → ℕ → ℕ) → View → Ring → (ℕ → ℕ) → (ℕ → ℕ) → ℕ → ℕ → ℕ → List ℕ → List ℕ → ℕ → ℕ → Type 0
-SidesTo ink view ring Y Z y from end = DrawnTo view ink (row_sides ring (between_in Y Z ring) y from) 2 from end
+abbrev pub SidesTo : (ℕ → ℕ → ℕ) → View → Circles → ℕ → ℕ → ℕ → List ℕ → List ℕ → ℕ → ℕ → Type 0
+SidesTo ink view circles y from end = DrawnTo view ink (row_sides circles.ring (cover_in circles) y from) 2 from end
 
-module _ {ink : ℕ → ℕ → ℕ} {view : View} (ring : Ring) (Y Z : ℕ → ℕ) (y from end : ℕ) {l : List ℕ} where
+module _ {ink : ℕ → ℕ → ℕ} {view : View} (circles : Circles) (y from end : ℕ) {l : List ℕ} where
   -- at the first distance
-  pub sides_start : from ≤ end → SidesTo ink view ring Y Z y from end l l 0 from
-  sides_start h = loop_start h (sides_none ring (between_in Y Z ring) y from)
+  pub sides_start : from ≤ end → SidesTo ink view circles y from end l l 0 from
+  sides_start h = loop_start h (sides_none circles.ring (cover_in circles) y from)
 
   -- a turn: the pair at distance a is drawn
-  pub sides_turn : {m p : List ℕ} {b touched a n t : ℕ} → b ≡ apart ring.cy (y + origin) → a < end
-      → SidesTo ink view ring Y Z y from end l m touched a
-      → n ≡ between Y Z a b
+  pub sides_turn : {m p : List ℕ} {b touched a n t : ℕ} → b ≡ apart circles.ring.cy (y + origin) → a < end
+      → SidesTo ink view circles y from end l m touched a
+      → n ≡ cover circles a b
       → t ≡ touch n
-      → Drawn view.w view.h ink (row_sides ring (λ _ _. n) y a (a + 1)) m p (2 * touch n)
-      → SidesTo ink view ring Y Z y from end l p (touched + t) (a + 1)
+      → Drawn view.w view.h ink (row_sides circles.ring (λ _ _. n) y a (a + 1)) m p (2 * touch n)
+      → SidesTo ink view circles y from end l p (touched + t) (a + 1)
   sides_turn {a = a} {n} {t} row h done is count pair =
-      let N = between_in Y Z ring in
-      loop_turn (row_sides ring N y a (a + 1)) t h done
-      (sides_cut ring N y from (a + 1) a done.least (omega arith))
+      let N = cover_in circles in
+      loop_turn (row_sides circles.ring N y a (a + 1)) t h done
+      (sides_cut circles.ring N y from (a + 1) a done.least (omega arith))
       (omega arith)
-      (rw count (pair_same ring N y a n (is ∙ ap (between Y Z a) row) pair))
+      (rw count (pair_same circles.ring N y a n (is ∙ ap (cover circles a) row) pair))
 
 -- ---- on both sides of two rows
 
 -- what of the two rows at distance b lies from to a away is drawn
-abbrev pub QuartersTo : (ℕ → ℕ → ℕ) → View → Ring → (ℕ → ℕ) → (ℕ → ℕ) → ℕ → ℕ → ℕ → List ℕ → List ℕ → ℕ → ℕ → Type 0
-QuartersTo ink view ring Y Z b from end = DrawnTo view ink (λ a. quartered ring (clipped from b a (b + 1) (between Y Z))) 4 from end
+abbrev pub QuartersTo : (ℕ → ℕ → ℕ) → View → Circles → ℕ → ℕ → ℕ → List ℕ → List ℕ → ℕ → ℕ → Type 0
+QuartersTo ink view circles b from end = DrawnTo view ink (λ a. around circles.ring (clipped from b a (b + 1) (cover circles))) 4 from end
 
-module _ {ink : ℕ → ℕ → ℕ} {view : View} (ring : Ring) (Y Z : ℕ → ℕ) (b from end : ℕ) {l : List ℕ} where
+module _ {ink : ℕ → ℕ → ℕ} {view : View} (circles : Circles) (b from end : ℕ) {l : List ℕ} where
   -- at the first distance
-  pub quarters_start : from ≤ end → QuartersTo ink view ring Y Z b from end l l 0 from
-  quarters_start h = loop_start h (quarters_none ring (between Y Z) from b from (b + 1) (inl (omega arith)))
+  pub quarters_start : from ≤ end → QuartersTo ink view circles b from end l l 0 from
+  quarters_start h = loop_start h (quarters_none circles.ring (cover circles) from b from (b + 1) (inl (omega arith)))
 
   -- a turn: the pairs at distance a are drawn
-  pub quarters_turn : {m p q : List ℕ} {touched a n t y z : ℕ} → Quarters view ring b y z end → a < end
-      → QuartersTo ink view ring Y Z b from end l m touched a
-      → n ≡ between Y Z a b
+  pub quarters_turn : {m p q : List ℕ} {touched a n t y z : ℕ} → Quarters view circles.ring b y z end → a < end
+      → QuartersTo ink view circles b from end l m touched a
+      → n ≡ cover circles a b
       → t ≡ touch n
-      → Drawn view.w view.h ink (row_sides ring (λ _ _. n) y a (a + 1)) m p (2 * touch n)
-      → Drawn view.w view.h ink (row_sides ring (λ _ _. n) z a (a + 1)) p q (2 * touch n)
-      → QuartersTo ink view ring Y Z b from end l q (touched + t) (a + 1)
+      → Drawn view.w view.h ink (row_sides circles.ring (λ _ _. n) y a (a + 1)) m p (2 * touch n)
+      → Drawn view.w view.h ink (row_sides circles.ring (λ _ _. n) z a (a + 1)) p q (2 * touch n)
+      → QuartersTo ink view circles b from end l q (touched + t) (a + 1)
   quarters_turn {a = a} {n} {t} {y} {z} rows h done is count lower upper =
-      let N = between Y Z in
-      let new = quartered ring (clipped a b (a + 1) (b + 1) N) in
+      let N = cover circles in
+      let new = around circles.ring (clipped a b (a + 1) (b + 1) N) in
       let twice : 2 * touch n + 2 * touch n ≡ 4 * t = omega arith in
       loop_turn new t h done
-      (quarters_cut ring N from b (a + 1) (b + 1) a done.least (omega arith))
+      (quarters_cut circles.ring N from b (a + 1) (b + 1) a done.least (omega arith))
       (omega arith)
       (rw (← twice)
       (drawn_join new (rows_join N rows a (a + 1))
-      (pair_same ring (between_in Y Z ring) y a n (is ∙ ap (N a) (lower-at rows)) lower)
-      (pair_same ring (between_in Y Z ring) z a n (is ∙ ap (N a) (upper-at rows)) upper)))
+      (pair_same circles.ring (cover_in circles) y a n (is ∙ ap (N a) (lower-at rows)) lower)
+      (pair_same circles.ring (cover_in circles) z a n (is ∙ ap (N a) (upper-at rows)) upper)))

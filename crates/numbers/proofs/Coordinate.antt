@@ -5,10 +5,10 @@ use mathlib.Core.List.{[], ◌∷◌}
 use mathlib.Core.Logic.{⊎_elim}
 use Prim.Native.Nat.{ℕ, suc, ◌+◌, ◌*◌, ◌-◌, ◌/◌, ◌%◌, ◌≤◌, ◌<◌}
 use native.Mathlib.Omega.{arith}
-use borrow.Author.Tests.{lt-ltb, le-ltb, le-leb, lt-leb}
+use borrow.Author.Tests.{lt-ltb, le-leb, lt-leb}
 use lib.Dec.{T, ltb, leb}
 use lib.IntN.{ℤ, pos, negsuc, nat_abs, ◌+ℤ◌, ◌-ℤ◌}
-use lib.Signed.{le_z, lt_z, non_neg, pos-nat_abs}
+use lib.Signed.{le_z, non_neg, pos-nat_abs}
 use mir.Syntax.{w16, w64}
 use mir.Val.{SFits, to_z, of_z}
 use mir.Facts.{to_z-of_z, of_z-to_z}
@@ -16,7 +16,7 @@ use Rattle.numbers.specs.inner.Order.{dist, Span}
 use Rattle.numbers.proofs.Order.{lt_or_le}
 use Rattle.numbers.specs.Coordinate.{in_range, bits_of, signed_of, word_of, bytes_of}
 use Rattle.numbers.specs.inner.Offset.{origin, offset_most, offset_of}
-use Rattle.numbers.proofs.Integer.{Diff, plus, minus, diff_of, diff_pos, diff_add, diff_minus, diff_shift, diff_unique, diff_eq, diff_le, le_diff, diff_abs, is_below, non_neg_diff, sfits_diff}
+use Rattle.numbers.proofs.Integer.{Diff, plus, minus, diff_of, diff_pos, diff_add, diff_minus, diff_shift, diff_eq, diff_le, le_diff, diff_abs, is_below, non_neg_diff, sfits_diff}
 
 -- ---- the range
 
@@ -117,28 +117,6 @@ bytes_word low high h =
     let k : (low + 256 * high) / 256 ≡ high = omega arith in
     rw (l, k)
 
--- ---- −1 − z of a negative number, as `bits` and `signed` take it
-pub flipped : (z : ℤ) → SFits w16 z → lt_z z (pos 0) ≡ true → (negsuc 0 -ℤ z ≡ pos (65535 - bits_of z)) × (32768 ≤ bits_of z) × (bits_of z ≤ 65535)
-flipped (pos n) f e = absurd (let q : ◌≡◌ {A = ℕ} 0 1 = cc (le-ltb n 0 (omega arith)) in omega arith)
-flipped (negsuc n) f e =
-    let k : n < 32768 = f.sfits in
-    (diff_unique (diff_minus (diff_of (negsuc 0)) (diff_of (negsuc n))) (diff_pos (65535 - (65535 - n))) (omega arith), omega arith, omega arith)
-
-pub not_negative : (z : ℤ) → SFits w16 z → lt_z z (pos 0) ≡ false → (z ≡ pos (bits_of z)) × (bits_of z < 32768)
-not_negative (pos n) f e = (refl, f.sfits)
-not_negative (negsuc n) f e = absurd (let q : ◌≡◌ {A = ℕ} 0 1 = cc in omega arith)
-
-pub flipped_back : (b : ℕ) → 32768 ≤ b → b < 65536 → (negsuc 0 -ℤ pos (65535 - b) ≡ signed_of b) × SFits w16 (signed_of b)
-flipped_back b h k =
-    let e : signed_of b ≡ negsuc (65535 - b) = rw (le-ltb b 32768 h) in (
-      diff_unique (diff_minus (diff_of (negsuc 0)) (diff_pos (65535 - b))) (diff_of (negsuc (65535 - b))) (omega arith) ∙ sym e,
-      rw e (record { sfits = omega arith }),
-    )
-
--- a local gives back the number that it was given
-pub offset_kept : {z : ℤ} {r : ℕ} → SFits w16 z → r ≡ offset_of (to_z w16 (of_z w16 z)) → r ≡ offset_of z
-offset_kept f e = rw (to_z-of_z f) at e
-
 -- a pixel of a page is in range
 pub pixel_in : (n : ℕ) → n ≤ 4095 → in_range (pos n) ≡ true
 pixel_in n h = rw (le-leb n 4095 h)
@@ -161,18 +139,9 @@ word_parts : (z : ℤ) → SFits w16 z → (plus z < 32768) × (minus z ≤ 3276
 word_parts (pos n) f = (f.sfits, omega arith)
 word_parts (negsuc n) f = (omega arith, f.sfits)
 
-pub word_wide : {z : ℤ} → SFits w16 z → SFits w64 z
-word_wide {z} f = let h = word_parts z f in sfits_diff (diff_of z) (omega arith) (omega arith)
-
 module _ {a b : ℤ} (p : SFits w16 a) (q : SFits w16 b) where
   gap : Diff (b -ℤ a) (plus b + minus a) (minus b + plus a)
   gap = diff_minus (diff_of b) (diff_of a)
-
-  pub gap_fits : SFits w64 (b -ℤ a)
-  gap_fits = let h = word_parts a p in let k = word_parts b q in sfits_diff gap (omega arith) (omega arith)
-
-  pub gap_non_neg : T (le_z a b) → T (non_neg (b -ℤ a))
-  gap_non_neg t = non_neg_diff gap (omega (arith, diff_le (diff_of a) (diff_of b) t))
 
   pub gap_is : Span a b (nat_abs (b -ℤ a))
   gap_is = let h = word_parts a p in let k = word_parts b q in record { is = refl; most = omega (arith, diff_abs gap) }
@@ -182,8 +151,3 @@ span_turned {a} {b} s =
     let e = diff_abs (diff_minus (diff_of a) (diff_of b)) in
     let f = diff_abs (diff_minus (diff_of b) (diff_of a)) in
     record { is = omega (arith, s.is); most = s.most }
-
-pub le_turned : (a b : ℤ) → le_z a b ≡ false → T (le_z b a)
-le_turned a b e =
-    ⊎_elim (λ h. absurd (subst T e (le_diff (diff_of a) (diff_of b) (omega arith)))) (λ h. le_diff (diff_of b) (diff_of a) (omega arith))
-    (lt_or_le (plus a + minus b) (plus b + minus a))

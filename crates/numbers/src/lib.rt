@@ -13,6 +13,13 @@ pub const ORIGIN: u64 = 4096;
 // The greatest offset, that of 4,095.
 pub const OFFSET_MOST: u64 = 8191;
 
+// A coverage of n over d.
+#[derive(Clone, Copy, Debug, PartialEq, Eq)]
+pub struct Ratio {
+    pub n: u64,
+    pub d: u64,
+}
+
 // A product of two 16-bit numbers.
 pub fn product(a: u64, b: u64) -> u64
     requires { (a ≤ 65535) × (b ≤ 65535) }

@@ -6,7 +6,7 @@ use mathlib.Core.List.{List, [], ◌∷◌, ◌++◌}
 use Prim.Native.Nat.{ℕ, zero, suc, ◌+◌, ◌-◌, ◌≤◌, ◌<◌}
 use native.Mathlib.Nat.{not-suc-le-zero, le_of_suc-le-suc}
 use native.Mathlib.Omega.{arith}
-use lib.ListN.{length, get_or, set, take, drop, length-set, length-append, length-take, length-drop, get_or-append}
+use lib.ListN.{length, replicate, get_or, set, take, drop, length-set, length-append, length-take, length-drop, get_or-append}
 use lib.Seq.{get_or-set_same, get_or-set_other, get_or-take, get_or-drop, ext_get_or}
 use lib.Dec.{ltb}
 use borrow.Rule.Slice.PartMut.{put_mid, Post-is}
@@ -18,6 +18,12 @@ pub length_over : (f : ℕ → ℕ → ℕ) (l : List ℕ) → length (over f l)
 unfolding over
 length_over f [] = refl
 length_over f (u ∷ l) = ap suc (length_over (λ k. f (suc k)) l)
+
+-- the same level everywhere
+pub over_level : (v : ℕ) (l : List ℕ) → replicate (length l) v ≡ over (λ _ _. v) l
+unfolding over
+over_level v [] = refl
+over_level v (u ∷ l) = ap (λ (t : List ℕ). v ∷ t) (over_level v l)
 
 pub get_d_over : (f : ℕ → ℕ → ℕ) (l : List ℕ) (k : ℕ) → k < length l → get_or (over f l) k 0 ≡ f k (get_or l k 0)
 unfolding over

@@ -7,7 +7,9 @@ use native.Mathlib.Omega.{arith}
 use Rattle.numbers.proofs.Order.{lt_or_le}
 use Rattle.chords.specs.Circle.{chord, chords}
 use Rattle.chords.proofs.Chord.{chords_rise, chords_le}
-use Rattle.rings.specs.inner.Heights.{between, Heights, Nested, Measured}
+use Rattle.rings.specs.declared.Circles.{Circles}
+use Rattle.rings.specs.inner.Heights.{at, between, Heights}
+use Rattle.rings.specs.inner.Circles.{Measured}
 
 chord_le : (y z m n : ℕ) → y ≤ z → n ≤ m → min (y - 256 * m) 256 ≤ min (z - 256 * n) 256
 chord_le y z m n h k = omega arith
@@ -65,11 +67,11 @@ reach_order : {Y : ℕ → ℕ} {b i o : ℕ} → Reach Y b i o → i ≤ o
 reach_order {Y} {b} {i} {o} r = ⊎_elim (λ h. absurd (omega (arith, r.whole o h, r.clear o (omega arith)))) (λ h. h) (lt_or_le o i)
 
 -- the row does not meet the inner circle
-pub measured_solid : (Y Z : ℕ → ℕ) (R hole b i o : ℕ) → Nested Y Z R hole → hole ≤ b → o ≤ R → Reach Y b i o
-    → Measured Y Z R b (record { hole = 0; inner = 0; whole = i; outer = o })
+pub measured_solid : (circles : Circles) (b i o : ℕ) → circles.ring.hole ≤ b → o ≤ circles.ring.radius → Reach (at circles.outer.now) b i o
+    → Measured circles b (record { hole = 0; inner = 0; whole = i; outer = o })
 unfolding between
-measured_solid Y Z R hole b i o n far h r =
-    let none : (a : ℕ) → chords Z a b ≡ 0 = λ a. chords_far n.inner a b (omega arith) in
+measured_solid circles b i o far h r =
+    let none : (a : ℕ) → chords (at circles.inner.now) a b ≡ 0 = λ a. chords_far circles.nested.inner a b (omega arith) in
     record {
       order = (omega arith, omega arith, reach_order r, h);
       hole_none = λ a k. absurd (omega arith);
@@ -78,11 +80,13 @@ measured_solid Y Z R hole b i o n far h r =
     }
 
 -- it does: the inner circle is nowhere wider than the outer one
-pub measured_hollow : (Y Z : ℕ → ℕ) (R hole b i o j e : ℕ) → Nested Y Z R hole → o ≤ R → Reach Y b i o → Reach Z b j e
-    → Measured Y Z R b (record { hole = j; inner = min o e; whole = max (min o e) i; outer = o })
+pub measured_hollow : (circles : Circles) (b i o j e : ℕ) → o ≤ circles.ring.radius → Reach (at circles.outer.now) b i o → Reach (at circles.inner.now) b j e
+    → Measured circles b (record { hole = j; inner = min o e; whole = max (min o e) i; outer = o })
 unfolding between
-measured_hollow Y Z R hole b i o j e n h r s =
-    let less : (a : ℕ) → chords Z a b ≤ chords Y a b = λ a. chords_rise Z Y a b n.within in
+measured_hollow circles b i o j e h r s =
+    let Y = at circles.outer.now in
+    let Z = at circles.inner.now in
+    let less : (a : ℕ) → chords Z a b ≤ chords Y a b = λ a. chords_rise Z Y a b circles.nested.within in
     let clear : (a : ℕ) → min o e ≤ a → chords Z a b ≡ 0 =
     λ a k. ⊎_elim (λ z. omega (arith, r.clear a (omega arith), less a)) (λ z. s.clear a (omega arith)) (lt_or_le a e) in
     let hole_order = reach_order (record { whole = s.whole; clear = clear }) in

@@ -1,3 +1,2 @@
 -- Laws of what lies between two circles.
 pub mod Chords
-pub mod Placed

@@ -1,3 +1,4 @@
 -- What rings are drawn from.
+pub mod Circles
 pub mod Heights
 pub mod Placed

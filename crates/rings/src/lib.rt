@@ -2,22 +2,35 @@
 #![tactic(auto)]
 
 ghost use Rattle.std.specs.Prelude.{◌≡◌, ℕ, ◌+◌, ◌*◌, ◌≤◌, ◌<◌, min, max, leb, length};
+ghost use Rattle.numbers.specs.inner.Offset.{offset_most};
 ghost use Rattle.limits.specs.Limits.{radius_most};
 ghost use Rattle.chords.specs.Circle.{chords};
-ghost use Rattle.rings.specs.inner.Heights.{at, between, Heights, Circles, Measured};
+ghost use Rattle.rings.specs.inner.Heights.{at, Heights, Nested};
 
 use chords::chord_of;
-use numbers::{greater, lesser};
 
-// The offsets of the centre, the radii of the two circles, the level, and the scale of the blends over 512. A disc has a hole of radius 0.
+// The offsets of the centre, and the radii of the two circles. A disc has a hole of radius 0.
 #[derive(Clone, Copy)]
 pub struct Ring {
     pub cx: u64,
     pub cy: u64,
     pub radius: u64,
     pub hole: u64,
-    pub level: u8,
-    pub m: u64,
+    ghost across: { cx ≤ offset_most },
+    ghost down: { cy ≤ offset_most },
+    ghost within: { hole ≤ radius },
+    ghost most: { radius ≤ radius_most },
+}
+
+// A ring with the heights of its two circles, those at 0 to the radius at least.
+#[derive(Clone, Copy)]
+pub struct Circles<'a> {
+    pub ring: Ring,
+    pub outer: &'a [u32],
+    pub inner: &'a [u32],
+    ghost nested: { Nested (at outer.now) (at inner.now) ring.radius ring.hole },
+    ghost outer_held: { ring.radius < length outer.now },
+    ghost inner_held: { ring.hole < length inner.now },
 }
 
 // The distances at which a row changes: a hole, an edge, a whole part, an edge.
@@ -29,18 +42,12 @@ pub struct Widths {
     pub outer: u64,
 }
 
-fn wide(height: u32) -> u64
-    ensures { result ≡ height }
-{
-    height as u64
-}
-
 // The height at distance k.
 fn height(hs: &[u32], k: u64) -> u64
     requires { k < length hs.now }
     ensures { result ≡ at hs.now k }
 {
-    wide(hs[k as usize])
+    hs[k as usize] as u64
 }
 
 // The coverage over 512 by a disc, at the distances a and b.
@@ -48,22 +55,9 @@ fn covered(hs: &[u32], a: u64, b: u64) -> u64
     requires { (a ≤ radius_most) × (b ≤ radius_most) × (b + 1 < length hs.now) }
     ensures { (result ≡ chords (at hs.now) a b) × (result ≤ 512) }
 {
-    let m = lesser(a, b);
-    let n = greater(a, b);
+    let m = a.min(b);
+    let n = a.max(b);
     chord_of(height(hs, m), n) + chord_of(height(hs, m + 1), n)
-}
-
-// The coverage over 512 between two circles: a pixel past the hole needs no heights of the inner one.
-pub fn covered_between(outer: &[u32], inner: &[u32], ring: Ring, a: u64, b: u64) -> u64
-    requires { Circles outer.now inner.now ring × (a ≤ radius_most) × (b < ring.radius) }
-    ensures { (result ≡ between (at outer.now) (at inner.now) a b) × (result ≤ 512) }
-{
-    let n = covered(outer, a, b);
-    if greater(a, b) < ring.hole {
-        n - covered(inner, a, b)
-    } else {
-        n
-    }
 }
 
 // Whether the pixel at the distances a and b is whole: the lower of its two heights tells.
@@ -71,7 +65,7 @@ fn is_whole(hs: &[u32], a: u64, b: u64) -> bool
     requires { (a ≤ radius_most) × (b ≤ radius_most) × (b + 1 < length hs.now) }
     ensures { result ≡ leb (256 * (max a b + 1)) (at hs.now (min a b + 1)) }
 {
-    256 * (greater(a, b) + 1) <= height(hs, lesser(a, b) + 1)
+    256 * (a.max(b) + 1) <= height(hs, a.min(b) + 1)
 }
 
 // Whether nothing of it is covered: the higher one tells.
@@ -79,7 +73,7 @@ fn is_clear(hs: &[u32], a: u64, b: u64) -> bool
     requires { (a ≤ radius_most) × (b ≤ radius_most) × (b + 1 < length hs.now) }
     ensures { result ≡ leb (at hs.now (min a b)) (256 * max a b) }
 {
-    height(hs, lesser(a, b)) <= 256 * greater(a, b)
+    height(hs, a.min(b)) <= 256 * a.max(b)
 }
 
 // How many pixels of the row at distance b, from the centre outwards, are whole: a guess, lowered until it passes the test.
@@ -88,12 +82,11 @@ fn whole_width(hs: &[u32], b: u64) -> u64
     requires { Heights (at hs.now) radius_most × (b ≤ radius_most) × (b + 1 < length hs.now) }
     ensures { (a : ℕ) → a < result → chords (at hs.now) a b ≡ 512 }
 {
-    let mut i = height(hs, b + 1) / 256;
-    while 0 < i {
-        if is_whole(hs, i - 1, b) {
-            return i;
+    let guess = height(hs, b + 1) / 256;
+    for a in (0..guess).rev() {
+        if is_whole(hs, a, b) {
+            return a + 1;
         }
-        i -= 1;
     }
     0
 }
@@ -103,36 +96,52 @@ fn covered_width(hs: &[u32], radius: u64, b: u64) -> u64
     requires { Heights (at hs.now) radius × (radius ≤ radius_most) × (b ≤ radius_most) × (b + 1 < length hs.now) }
     ensures { (result ≤ radius) × ((a : ℕ) → result ≤ a → chords (at hs.now) a b ≡ 0) }
 {
-    let mut i = (height(hs, b) + 255) / 256;
-    while i < radius {
-        if is_clear(hs, i, b) {
-            return i;
+    let guess = (height(hs, b) + 255) / 256;
+    for a in guess..radius {
+        if is_clear(hs, a, b) {
+            return a;
         }
-        i += 1;
     }
-    i
+    radius
 }
 
-// Where the row at distance b changes.
-pub fn measure(outer: &[u32], inner: &[u32], ring: Ring, b: u64) -> Widths
-    requires { Circles outer.now inner.now ring × (b < ring.radius) }
-    ensures { Measured (at outer.now) (at inner.now) ring.radius b result }
-{
-    let whole = whole_width(outer, b);
-    let end = covered_width(outer, ring.radius, b);
-    if ring.hole <= b {
-        return Widths {
-            hole: 0,
-            inner: 0,
-            whole,
-            outer: end,
-        };
+impl Circles<'_> {
+    ghost use Rattle.rings.specs.inner.Circles.{cover, Measured};
+
+    // The coverage over 512 at the distances a and b: a pixel past the hole needs no heights of the inner circle.
+    pub fn covered(self, a: u64, b: u64) -> u64
+        requires { (a ≤ radius_most) × (b < self.ring.radius) }
+        ensures { (result ≡ cover self.entry a b) × (result ≤ 512) }
+    {
+        let n = covered(self.outer, a, b);
+        if a.max(b) < self.ring.hole {
+            n - covered(self.inner, a, b)
+        } else {
+            n
+        }
     }
-    let edge = lesser(end, covered_width(inner, ring.hole, b));
-    Widths {
-        hole: whole_width(inner, b),
-        inner: edge,
-        whole: greater(edge, whole),
-        outer: end,
+
+    // Where the row at distance b changes.
+    pub fn measure(self, b: u64) -> Widths
+        requires { b < self.ring.radius }
+        ensures { Measured self.entry b result }
+    {
+        let whole = whole_width(self.outer, b);
+        let end = covered_width(self.outer, self.ring.radius, b);
+        if self.ring.hole <= b {
+            return Widths {
+                hole: 0,
+                inner: 0,
+                whole,
+                outer: end,
+            };
+        }
+        let edge = end.min(covered_width(self.inner, self.ring.hole, b));
+        Widths {
+            hole: whole_width(self.inner, b),
+            inner: edge,
+            whole: edge.max(whole),
+            outer: end,
+        }
     }
 }

@@ -3,7 +3,7 @@ use Rattle.std.specs.Prelude.{Bool, true, false, ◌≡◌, ℕ, ◌*◌, ℤ, p
 use Rattle.std.specs.Int.Signed.{le_z}
 use Rattle.edges.specs.Edge.{by_zero, edge_n, edge_d}
 use Rattle.shapes.specs.declared.Triangle.{Triangle}
-use Rattle.sides.specs.declared.Cover.{Cover}
+use Rattle.numbers.specs.declared.Ratio.{Ratio}
 
 pub record Corner : Type 0 where
   pub x : ℤ
@@ -57,7 +57,7 @@ abbrev pub triangle_whole : Triangle → ℕ
 triangle_whole t = cover_d (first t) (second t) (third t)
 
 -- n and d of pixel (x, y)
-abbrev pub cover_of : Triangle → ℤ → ℤ → Cover
+abbrev pub cover_of : Triangle → ℤ → ℤ → Ratio
 cover_of t x y = record { n = triangle_cover t x y; d = triangle_whole t }
 
 -- ---- the corners in another order

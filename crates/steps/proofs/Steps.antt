@@ -28,7 +28,7 @@ use Rattle.steps.proofs.Column.{raised_byte, lowered-byte, column-drawn}
 use Rattle.steps.proofs.Advance.{advance, byte-least, byte-most}
 use Rattle.columns.proofs.Fits.{Covers, rows_cover, whole-fits, layout_le, along-most}
 
-module _ {palette : List ℕ} {s : Stroke} {size : ℕ} {at : Step} (here : Steppable palette s at size) where
+module _ {s : Stroke} {size : ℕ} {at : Step} (here : Steppable s at size) where
   abbrev f : Frame
   f = s.frame
 

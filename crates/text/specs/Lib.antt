@@ -1,2 +1,3 @@
 -- Numbers and pages as text.
 pub mod Text
+pub mod inner

@@ -1,8 +1,9 @@
 // The text of a page and of a refusal, written into a buffer.
 #![tactic(auto)]
 
-ghost use Rattle.std.specs.Prelude.{◌≡◌, ◌++◌, ◌+◌, ◌*◌, ◌%◌, ◌≤◌, ◌<◌, length, take};
+ghost use Rattle.std.specs.Prelude.{◌≡◌, [], ◌∷◌, ◌++◌, ◌+◌, ◌*◌, ◌%◌, ◌≤◌, ◌<◌, length, take};
 ghost use Rattle.text.specs.Text.{digit_of, digits, number, after_level, next_column, levels_text, after_count, counts_text, refusal_text, head_text, page_text};
+ghost use Rattle.text.specs.inner.Put.{Put};
 
 use shapes::PLAYERS;
 
@@ -10,73 +11,130 @@ use shapes::PLAYERS;
 fn digit(n: u64) -> u8
     ensures { result ≡ digit_of n }
 {
-    (48 + n % 10) as u8
+    b'0' + (n % 10) as u8
 }
 
-// Puts bytes at a place of the buffer; hands back the place after them.
-fn put_bytes(out: &mut [u8], at: usize, bytes: &[u8]) -> usize
-    requires { at + length bytes.now ≤ length out.old }
-    ensures { (take result out.new ≡ take at out.old ++ bytes.now) × (result ≡ at + length bytes.now) }
-{
-    let mut i: usize = 0;
-    while i < bytes.len() {
-        out[at + i] = bytes[i];
-        i += 1;
+// A text that is written: the first `at` bytes of a lent buffer.
+#[derive(Drop)]
+struct Text<'a> {
+    out: &'a mut [u8],
+    at: usize,
+}
+
+impl<'a> Text<'a> {
+    // Puts bytes behind it.
+    fn put_bytes(&mut self, bytes: &[u8])
+        requires { self.old.at + length bytes.now ≤ length self.old.out.now }
+        ensures { Put self.old self.new bytes.now (length bytes.now) }
+    {
+        let end = self.at + bytes.len();
+        self.out[self.at..end].copy_from_slice(bytes);
+        self.at = end;
     }
-    at + i
-}
 
-// Puts a number in at most so many digits; hands back the place after them.
-fn put_digits(out: &mut [u8], at: usize, n: u64, places: usize) -> usize
-    requires { at + places ≤ length out.old }
-    ensures { (take result out.new ≡ take at out.old ++ digits places n) × (result ≤ at + places) }
-{
-    if places == 0 {
-        return at;
+    fn put_byte(&mut self, byte: u8)
+        requires { self.old.at < length self.old.out.now }
+        ensures { Put self.old self.new (byte ∷ []) 1 }
+    {
+        self.out[self.at] = byte;
+        self.at += 1;
     }
-    let last = digit(n);
-    if n < 10 {
-        out[at] = last;
-        return at + 1;
+
+    // Puts a number in at most so many digits.
+    fn put_digits(&mut self, n: u64, places: usize)
+        requires { self.old.at + places ≤ length self.old.out.now }
+        ensures { Put self.old self.new (digits places n) places }
+    {
+        if places == 0 {
+            return;
+        }
+        if 10 <= n {
+            self.put_digits(n / 10, places - 1);
+        }
+        self.put_byte(digit(n));
     }
-    let next = put_digits(out, at, n / 10, places - 1);
-    out[next] = last;
-    next + 1
-}
 
-// Puts a number and the byte that follows it.
-fn put_number(out: &mut [u8], at: usize, n: u64, places: usize, after: u8) -> usize
-    requires { at + places < length out.old }
-    ensures { (take result out.new ≡ take at out.old ++ number places n after) × (result ≤ at + places + 1) }
-{
-    let next = put_digits(out, at, n, places);
-    out[next] = after;
-    next + 1
-}
+    // Puts a number and the byte that follows it.
+    fn put_number(&mut self, n: u64, places: usize, after: u8)
+        requires { self.old.at + places < length self.old.out.now }
+        ensures { Put self.old self.new (number places n after) (places + 1) }
+    {
+        self.put_digits(n, places);
+        self.put_byte(after);
+    }
 
-// Puts a level and the byte that follows it.
-fn put_level(out: &mut [u8], at: usize, level: u8, after: u8) -> usize
-    requires { at + 3 < length out.old }
-    ensures { (take result out.new ≡ take at out.old ++ number 3 level after) × (result ≤ at + 4) }
-{
-    put_number(out, at, level as u64, 3, after)
+    // Puts the levels of a page of width w, row after row.
+    fn put_levels(&mut self, w: usize, levels: &[u8])
+        requires { (self.old.at + 4 * length levels.now ≤ length self.old.out.now) × (length levels.now ≤ 65536) }
+        ensures { Put self.old self.new (levels_text w 0 levels.now) (4 * length levels.now) }
+    {
+        let mut x = 0;
+        for &level in levels {
+            self.put_number(level as u64, 3, after_level(w, x));
+            x = next_column(w, x);
+        }
+    }
+
+    // Puts the counts of the players.
+    fn put_counts(&mut self, touched: [u64; PLAYERS])
+        requires { self.old.at + 168 ≤ length self.old.out.now }
+        ensures { Put self.old self.new (counts_text 0 touched) 168 }
+    {
+        for (player, &count) in touched.iter().enumerate() {
+            self.put_number(count, 20, after_count(player));
+        }
+    }
+
+    // Puts what stands before the levels of a page.
+    #[tactic(auto, unfolding(crate::specs::Text::head_text))]
+    fn put_head(&mut self, w: u16, h: u16, touched: [u64; PLAYERS])
+        requires { self.old.at + 240 ≤ length self.old.out.now }
+        ensures { Put self.old self.new (head_text w h touched) 240 }
+    {
+        self.put_bytes(b"P2\n# touched ");
+        self.put_counts(touched);
+        self.put_number(w as u64, 20, b' ');
+        self.put_number(h as u64, 20, b'\n');
+        self.put_bytes(b"255\n");
+    }
+
+    // Puts a page of width w and height h.
+    fn put_page(&mut self, page: &[u8], w: u16, h: u16, touched: [u64; PLAYERS])
+        requires { (self.old.at + 4 * length page.now + 240 ≤ length self.old.out.now) × (length page.now ≤ 65536) }
+        ensures { Put self.old self.new (page_text w h touched page.now) (4 * length page.now + 240) }
+    {
+        let n = (w as usize * h as usize).min(page.len());
+        self.put_head(w, h, touched);
+        self.put_levels(w as usize, &page[..n]);
+    }
+
+    #[tactic(auto, unfolding(crate::specs::Text::refusal_text))]
+    fn put_refusal(&mut self, refusal: u8, place: usize)
+        requires { self.old.at + 240 ≤ length self.old.out.now }
+        ensures { Put self.old self.new (refusal_text refusal place) 240 }
+    {
+        self.put_bytes(b"refused ");
+        self.put_number(refusal as u64, 20, b' ');
+        self.put_bytes(b"at ");
+        self.put_number(place as u64, 20, b'\n');
+    }
 }
 
 // What follows the level in column x of a row of w levels.
+#[tactic(auto, using(std::proofs::lemmas::Bool::Decides::nat_tests), unfolding(crate::specs::Text::after_level))]
 fn after_level(w: usize, x: usize) -> u8
     requires { x < 65536 }
     ensures { result ≡ after_level w x }
 {
-    if x + 1 == w {
-        return b'\n';
+    if x + 1 == w || (x + 1) % 16 == 0 {
+        b'\n'
+    } else {
+        b' '
     }
-    if (x + 1) % 16 == 0 {
-        return b'\n';
-    }
-    b' '
 }
 
 // The column after column x.
+#[tactic(auto, using(std::proofs::lemmas::Bool::Decides::nat_tests), unfolding(crate::specs::Text::next_column))]
 fn next_column(w: usize, x: usize) -> usize
     requires { x < 65536 }
     ensures { (result ≡ next_column w x) × (result ≤ x + 1) }
@@ -84,23 +142,8 @@ fn next_column(w: usize, x: usize) -> usize
     if x + 1 == w { 0 } else { x + 1 }
 }
 
-// Puts the levels of a page of width w, row after row.
-fn put_levels(out: &mut [u8], at: usize, w: usize, levels: &[u8]) -> usize
-    requires { (at + 4 * length levels.now ≤ length out.old) × (length levels.now ≤ 65536) }
-    ensures { (take result out.new ≡ take at out.old ++ levels_text w 0 levels.now) × (result ≤ at + 4 * length levels.now) }
-{
-    let mut next = at;
-    let mut x: usize = 0;
-    let mut i: usize = 0;
-    while i < levels.len() {
-        next = put_level(out, next, levels[i], after_level(w, x));
-        x = next_column(w, x);
-        i += 1;
-    }
-    next
-}
-
 // What follows the count of a player.
+#[tactic(auto, using(std::proofs::lemmas::Bool::Decides::nat_tests), unfolding(crate::specs::Text::after_count))]
 fn after_count(player: usize) -> u8
     requires { player < 8 }
     ensures { result ≡ after_count player }
@@ -108,41 +151,14 @@ fn after_count(player: usize) -> u8
     if player + 1 == PLAYERS { b'\n' } else { b' ' }
 }
 
-// Puts the counts of the players; hands back the place after them.
-fn put_counts(out: &mut [u8], at: usize, touched: [u64; PLAYERS]) -> usize
-    requires { at + 168 ≤ length out.old }
-    ensures { (take result out.new ≡ take at out.old ++ counts_text 0 touched) × (result ≤ at + 168) }
-{
-    let mut next = at;
-    let mut player: usize = 0;
-    while player < PLAYERS {
-        next = put_number(out, next, touched[player], 20, after_count(player));
-        player += 1;
-    }
-    next
-}
-
 // Puts the text of a refusal; hands back its length.
 pub fn put_refusal(out: &mut [u8], refusal: u8, place: usize) -> usize
     requires { 240 ≤ length out.old }
     ensures { (take result out.new ≡ refusal_text refusal place) × (result ≤ 240) }
 {
-    let mut at = put_bytes(out, 0, b"refused ");
-    at = put_number(out, at, refusal as u64, 20, b' ');
-    at = put_bytes(out, at, b"at ");
-    put_number(out, at, place as u64, 20, b'\n')
-}
-
-// Puts what stands before the levels of a page; hands back its length.
-fn put_head(out: &mut [u8], w: u16, h: u16, touched: [u64; PLAYERS]) -> usize
-    requires { 240 ≤ length out.old }
-    ensures { (take result out.new ≡ head_text w h touched) × (result ≤ 240) }
-{
-    let mut at = put_bytes(out, 0, b"P2\n# touched ");
-    at = put_counts(out, at, touched);
-    at = put_number(out, at, w as u64, 20, b' ');
-    at = put_number(out, at, h as u64, 20, b'\n');
-    put_bytes(out, at, b"255\n")
+    let mut text = Text { out, at: 0 };
+    text.put_refusal(refusal, place);
+    text.at
 }
 
 // Puts the text of a page; hands back its length.
@@ -150,7 +166,7 @@ pub fn put_page(out: &mut [u8], page: &[u8], w: u16, h: u16, touched: [u64; PLAY
     requires { (4 * length page.now + 240 ≤ length out.old) × (length page.now ≤ 65536) }
     ensures { (take result out.new ≡ page_text w h touched page.now) × (result ≤ 4 * length page.now + 240) }
 {
-    let at = put_head(out, w, h, touched);
-    let n = numbers::lesser((w as u64) * (h as u64), page.len() as u64) as usize;
-    put_levels(out, at, w as usize, &page[..n])
+    let mut text = Text { out, at: 0 };
+    text.put_page(page, w, h, touched);
+    text.at
 }

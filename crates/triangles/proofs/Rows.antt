@@ -4,7 +4,7 @@ use mathlib.Core.Bool.{true, false}
 use mathlib.Core.List.{List}
 use mathlib.Core.Logic.{⊎_elim}
 use Prim.Native.Nat.{ℕ, ◌+◌, ◌*◌, ◌≤◌, ◌<◌}
-use native.Mathlib.Nat.{mul_comm, mul-le-mul, mul-le-mul_left, mul-le-mul_right}
+use native.Mathlib.Nat.{mul-le-mul, mul-le-mul_left, mul-le-mul_right}
 use native.Mathlib.Omega.{arith}
 use borrow.Author.Tests.{le-leb, lt-leb}
 use lib.IntN.{pos}
@@ -13,14 +13,13 @@ use Rattle.numbers.specs.inner.Offset.{origin}
 use Rattle.numbers.specs.inner.Order.{dist}
 use Rattle.numbers.proofs.Order.{lt_or_le}
 use Rattle.numbers.proofs.Coordinate.{in_range_lem, pixel_in, pixel_offset}
-use Rattle.lights.specs.inner.Palette.{lights_in}
 use Rattle.page.specs.inner.Ink.{ink_of}
 use Rattle.page.specs.inner.Paint.{clamped, Lawful, DrawnIn}
 use Rattle.page.specs.declared.View.{View}
 use Rattle.page.proofs.Clamp.{clamped_low, clamped_high, clamped-rises, before-clamped, from_clamped, between-clamped}
 use Rattle.page.proofs.Clip.{Inside, Outside, left_of_lem, right_of, above, below, clip_ext, clip_zero, clip_shrink, clip-rows}
 use Rattle.page.proofs.Drawn.{drawn-none, drawn_ext, drawn_join}
-use Rattle.page.proofs.Same.{drawn-alike}
+use Rattle.page.proofs.Same.{drawn-alike, ink_same}
 use Rattle.shapes.specs.inner.Offsets.{corners_of}
 use Rattle.shapes.specs.declared.Corners.{Corners}
 use Rattle.shapes.specs.declared.Triangle.{Triangle}
@@ -34,73 +33,65 @@ use Rattle.sides.proofs.Placed.{cover_placed, whole-placed}
 use Rattle.coverage.specs.Coverage.{rules_of, drawn_d}
 use Rattle.coverage.specs.inner.OnPage.{shape_on}
 use Rattle.triangles.specs.inner.Side.{left_on, SideIs, CutOf}
-use Rattle.triangles.specs.inner.Row.{between_of, between_on, beside_on, RowDrawn, RowsDrawn, Between, Crossed}
+use Rattle.triangles.specs.inner.Row.{between_of, between_on, beside_on, Alike, RowDrawn, RowsDrawn, Between, Crossed}
 use Rattle.triangles.specs.inner.Order.{Sorted}
 use Rattle.triangles.specs.declared.side.Side.{Side}
 use Rattle.triangles.specs.declared.side.Cut.{Cut}
 
 -- ---- rows that two sides cross
-module _ (palette : List ℕ) (view : View) (level d : ℕ) (n : ℕ → ℕ → ℕ) where
-  pub rows_none : (from end : ℕ) (l : List ℕ) → end ≤ from → RowsDrawn palette view level d n from end l l 0
+module _ (view : View) (ink : ℕ → ℕ → ℕ) (n : ℕ → ℕ → ℕ) where
+  pub rows_none : (from end : ℕ) (l : List ℕ) → end ≤ from → RowsDrawn view ink n from end l l 0
   rows_none from end l h =
-      drawn-none view.w view.h (ink_of (lights_in palette) level d) _ l
+      drawn-none view.w view.h ink _ l
       (clip_zero view.x0 from view.x1 end (λ x y. n (x + origin) (y + origin)) (λ x y i. absurd (omega (arith, i.top, i.bottom))))
 
   pub rows_join : (from middle end : ℕ) {l m k : List ℕ} {t u : ℕ} → from ≤ middle → middle ≤ end
-      → RowsDrawn palette view level d n from middle l m t
-      → RowsDrawn palette view level d n middle end m k u
-      → RowsDrawn palette view level d n from end l k (t + u)
+      → RowsDrawn view ink n from middle l m t
+      → RowsDrawn view ink n middle end m k u
+      → RowsDrawn view ink n from end l k (t + u)
   rows_join from middle end p q =
       drawn_join _ (clip-rows view.x0 from view.x1 end middle (λ x y. n (x + origin) (y + origin)) p q)
 
   -- a row of the coverage that row y has
-  pub row_of : (f : ℕ → ℕ) (y : ℕ) {e : ℕ} {l m : List ℕ} {t : ℕ} → e ≡ d → ((x : ℕ) → f x ≡ n x (y + origin))
-      → RowDrawn palette view level e f y view.x0 view.x1 l m t
-      → RowsDrawn palette view level d n y (y + 1) l m t
-  row_of f y {e} over same drawn =
-      drawn_ext _ (clip_ext view.x0 y view.x1 (y + 1) (λ x _. f (x + origin)) (λ x y. n (x + origin) (y + origin)) here) (rw over at drawn)
+  pub row_of : (f : ℕ → ℕ) (y : ℕ) {l m : List ℕ} {t : ℕ} → ((x : ℕ) → f x ≡ n x (y + origin))
+      → RowDrawn view ink f y view.x0 view.x1 l m t
+      → RowsDrawn view ink n y (y + 1) l m t
+  row_of f y same =
+      drawn_ext _ (clip_ext view.x0 y view.x1 (y + 1) (λ x _. f (x + origin)) (λ x y. n (x + origin) (y + origin)) here)
     where
       here : (x z : ℕ) → Inside view.x0 y view.x1 (y + 1) x z → f (x + origin) ≡ n (x + origin) (z + origin)
       here x z i = let k : y ≡ z = omega (arith, i.top, i.bottom) in same (x + origin) ∙ ap (λ (j : ℕ). n (x + origin) (j + origin)) k
 
 -- the row between two cuts is that between their sides
-pub between_cuts : (s t : Side) (y : ℕ) (a b : Cut) → CutOf s y a → CutOf t y b → (a.d * b.d ≡ s.d * t.d) × ((x : ℕ) → between_of a b x ≡ between_on s t x y)
-between_cuts s t y a b p q = (rw (p.over, q.over), λ x. rw (p.left x, q.left x, p.over, q.over))
+pub between_cuts : {s t : Side} {y : ℕ} {a b : Cut} → CutOf s y a → CutOf t y b → (a.d * b.d ≡ s.d * t.d) × ((x : ℕ) → between_of a b x ≡ between_on s t x y)
+between_cuts p q = (rw (p.over, q.over), λ x. rw (p.left x, q.left x, p.over, q.over))
 
-pub rows_next : (palette : List ℕ) (view : View) (level : ℕ) (s t : Side) (from y : ℕ) {a b : Cut} {l m k : List ℕ} {u v : ℕ} → from ≤ y
+pub rows_next : (view : View) (ink : ℕ → ℕ → ℕ) (s t : Side) (from y : ℕ) {a b : Cut} {l m k : List ℕ} {u v : ℕ} → from ≤ y
     → CutOf s (y + origin) a → CutOf t (y + origin) b
-    → RowsDrawn palette view level (s.d * t.d) (between_on s t) from y l m u
-    → RowDrawn palette view level (a.d * b.d) (between_of a b) y view.x0 view.x1 m k v
-    → RowsDrawn palette view level (s.d * t.d) (between_on s t) from (y + 1) l k (u + v)
-rows_next palette view level s t from y {a} {b} h p q before row =
-    let e = between_cuts s t (y + origin) a b p q in
-    rows_join palette view level (s.d * t.d) (between_on s t) from y (y + 1) h (omega arith) before
-    (row_of palette view level (s.d * t.d) (between_on s t) (between_of a b) y e.0 e.1 row)
+    → RowsDrawn view ink (between_on s t) from y l m u
+    → RowDrawn view ink (between_of a b) y view.x0 view.x1 m k v
+    → RowsDrawn view ink (between_on s t) from (y + 1) l k (u + v)
+rows_next view ink s t from y {a} {b} h p q before row =
+    rows_join view ink (between_on s t) from y (y + 1) h (omega arith) before
+    (row_of view ink (between_on s t) (between_of a b) y (between_cuts p q).1 row)
 
 -- drawn between t and s is drawn between s and t
-pub rows_back : (palette : List ℕ) (view : View) (level : ℕ) (s t : Side) (from end : ℕ) {l m : List ℕ} {u : ℕ}
-    → RowsDrawn palette view level (t.d * s.d) (between_on t s) from end l m u
-    → RowsDrawn palette view level (s.d * t.d) (between_on s t) from end l m u
-rows_back palette view level s t from end d =
+pub rows_back : {ink : ℕ → ℕ → ℕ} (view : View) (s t : Side) (from end : ℕ) {l m : List ℕ} {u : ℕ}
+    → RowsDrawn view ink (between_on t s) from end l m u
+    → RowsDrawn view ink (between_on s t) from end l m u
+rows_back view s t from end =
     drawn_ext _
     (clip_ext view.x0 from view.x1 end (λ x y. between_on t s (x + origin) (y + origin)) (λ x y. between_on s t (x + origin) (y + origin))
     (λ x y _. same (left_on s (x + origin) (y + origin) * t.d) (left_on t (x + origin) (y + origin) * s.d)))
-    (rw (mul_comm t.d s.d) at d)
   where
     same : (a b : ℕ) → dist b a ≡ dist a b
     same a b = omega arith
 
 -- rows from `from` to before y of those that two sides cross
-pub record DrawnTo (palette : List ℕ) (view : View) (level : ℕ) (s t : Side) (from end : ℕ) (page₀ page : List ℕ) (touched y : ℕ) : Type 0 where
+pub record DrawnTo (view : View) (ink : ℕ → ℕ → ℕ) (s t : Side) (from end : ℕ) (page₀ page : List ℕ) (touched y : ℕ) : Type 0 where
   pub least : from ≤ y
   pub most : y ≤ end
-  pub drawn : RowsDrawn palette view level (s.d * t.d) (between_on s t) from y page₀ page touched
-
-pub drawn-all : {palette : List ℕ} {view : View} {level : ℕ} {s t : Side} {from end : ℕ} {page₀ page : List ℕ} {touched y : ℕ}
-    → DrawnTo palette view level s t from end page₀ page touched y
-    → end ≤ y
-    → RowsDrawn palette view level (s.d * t.d) (between_on s t) from end page₀ page touched
-drawn-all {end = end} {y = y} i h = let e : y ≡ end = omega (arith, i.most) in rw e at i.drawn
+  pub drawn : RowsDrawn view ink (between_on s t) from y page₀ page touched
 
 -- rows that lie between two offsets lie between others around them, and where there are some, the offsets differ
 pub within : {low high low' high' from end : ℕ} → low' ≤ low → high ≤ high' → Between low high from end → Between low' high' from end
@@ -109,12 +100,17 @@ within p q b = record { order = b.order; below = λ y u v. omega (arith, b.below
 pub between-rises : {low high from end : ℕ} → Between low high from end → from < end → low < high
 between-rises {from = from} b h = omega (arith, b.below from (omega arith) h, b.above from (omega arith) h)
 
+-- inks of a level in some lights
+pub alike_in : {ink ink' : ℕ → ℕ → ℕ} {d d' e e' : ℕ} (lights : List ℕ) (level : ℕ) → ink ≡ ink_of lights level e → d ≡ e → ink' ≡ ink_of lights level e' → d' ≡ e'
+    → Alike ink d ink' d'
+alike_in {e = e} {e'} lights level p q p' q' = rw (p, q, p', q') (record { same = ink_same lights level e e' })
+
 -- ---- half a triangle
 -- by the side as the code holds it, and by its corners
-pub beside : {xa ya xb yb : ℕ} (palette : List ℕ) (view : View) (level : ℕ) (s t : Side) (from end : ℕ) {l m : List ℕ} {u : ℕ} → SideIs xa ya xb yb s → Between ya yb from end
-    → RowsDrawn palette view level (s.d * t.d) (between_on s t) from end l m u
-    → RowsDrawn palette view level (row_d (at xa ya) (at xb yb) * t.d) (beside_on xa ya xb yb t) from end l m u
-beside {xa} {ya} {xb} {yb} palette view level s t from end i b d =
+pub beside : {xa ya xb yb : ℕ} (lights : List ℕ) (level : ℕ) (view : View) (s t : Side) {from end : ℕ} {l m : List ℕ} {u : ℕ} → SideIs xa ya xb yb s → Between ya yb from end
+    → RowsDrawn view (ink_of lights level (s.d * t.d)) (between_on s t) from end l m u
+    → RowsDrawn view (ink_of lights level (row_d (at xa ya) (at xb yb) * t.d)) (beside_on xa ya xb yb t) from end l m u
+beside {xa} {ya} {xb} {yb} lights level view s t {from} {end} i b d =
     drawn_ext _
     (clip_ext view.x0 from view.x1 end
     (λ x y. dist (left_on s (x + origin) (y + origin) * t.d) (left_on t (x + origin) (y + origin) * row_d (at xa ya) (at xb yb)))
@@ -203,19 +199,20 @@ module _ (view : View) (clip : view.y0 ≤ view.y1) where
   rises low high e g h =
       ⊎_elim (λ k. k) (λ (k : high ≤ low). absurd (omega (arith, e, g, clamped-rises view.y0 view.y1 high low k))) (lt_or_le low high)
 
-module _ (palette : List ℕ) (view : View) (level : ℕ) (c : Corners) (long : Side) (i : SideIs c.x0 c.y0 c.x2 c.y2 long) (p : c.y0 ≤ c.y1) (q : c.y1 ≤ c.y2) where
+-- in the ink of a level in some lights
+module _ (lights : List ℕ) (level : ℕ) (view : View) (c : Corners) (long : Side) (i : SideIs c.x0 c.y0 c.x2 c.y2 long) (p : c.y0 ≤ c.y1) (q : c.y1 ≤ c.y2) where
   pub lower_half : {from end : ℕ} {l m : List ℕ} {t : ℕ} → Between c.y0 c.y1 from end
-      → RowsDrawn palette view level (row_d (at c.x0 c.y0) (at c.x1 c.y1) * long.d) (beside_on c.x0 c.y0 c.x1 c.y1 long) from end l m t
-      → RowsDrawn palette view level (offset_d c) (offset_n c) from end l m t
+      → RowsDrawn view (ink_of lights level (row_d (at c.x0 c.y0) (at c.x1 c.y1) * long.d)) (beside_on c.x0 c.y0 c.x1 c.y1 long) from end l m t
+      → RowsDrawn view (ink_of lights level (offset_d c)) (offset_n c) from end l m t
   lower_half {from} {end} b =
-      drawn-alike (lights_in palette) level view.x0 from view.x1 end _ _ _ (λ x y. offset_n c (x + origin) (y + origin))
+      drawn-alike _ _ view.x0 from view.x1 end _ _ _ (λ x y. offset_n c (x + origin) (y + origin)) (ink_same lights level _ _)
       (λ x y k. lower_equal c long i (x + origin) (y + origin) (b.below y k.top k.bottom) (b.above y k.top k.bottom) q)
 
   pub upper_half : {from end : ℕ} {l m : List ℕ} {t : ℕ} → Between c.y1 c.y2 from end
-      → RowsDrawn palette view level (row_d (at c.x1 c.y1) (at c.x2 c.y2) * long.d) (beside_on c.x1 c.y1 c.x2 c.y2 long) from end l m t
-      → RowsDrawn palette view level (offset_d c) (offset_n c) from end l m t
+      → RowsDrawn view (ink_of lights level (row_d (at c.x1 c.y1) (at c.x2 c.y2) * long.d)) (beside_on c.x1 c.y1 c.x2 c.y2 long) from end l m t
+      → RowsDrawn view (ink_of lights level (offset_d c)) (offset_n c) from end l m t
   upper_half {from} {end} b =
-      drawn-alike (lights_in palette) level view.x0 from view.x1 end _ _ _ (λ x y. offset_n c (x + origin) (y + origin))
+      drawn-alike _ _ view.x0 from view.x1 end _ _ _ (λ x y. offset_n c (x + origin) (y + origin)) (ink_same lights level _ _)
       (λ x y k. upper_equal c long i (x + origin) (y + origin) p (b.below y k.top k.bottom) (b.above y k.top k.bottom))
 
 -- rows that the triangle does not meet have nothing
@@ -231,13 +228,13 @@ module _ (c : Corners) (p : c.y0 ≤ c.y1) (q : c.y1 ≤ c.y2) (x y : ℕ) where
       (le-leb c.y0 y (omega arith)) (le-leb c.y1 y (omega arith)) (le-leb c.y2 y h)
 
 -- its rows drawn, the triangle is
-pub whole-drawn : (palette : List ℕ) (view : View) (level : ℕ) {size : ℕ} (t : Triangle) (r c : Corners) {from end : ℕ} {l m : List ℕ} {n : ℕ}
+pub whole-drawn : (lights : List ℕ) (level : ℕ) (view : View) {size : ℕ} (t : Triangle) (r c : Corners) {from end : ℕ} {l m : List ℕ} {n : ℕ}
     → Lawful view size → LawfulTriangle t → r ≡ corners_of t → Sorted r c
     → from ≡ clamped view.y0 view.y1 c.y0 → end ≡ clamped view.y0 view.y1 c.y2
-    → RowsDrawn palette view level (offset_d c) (offset_n c) from end l m n
-    → DrawnIn view (ink_of (lights_in palette) level (drawn_d (triangle t))) (shape_on (triangle t)) l m n
+    → RowsDrawn view (ink_of lights level (offset_d c)) (offset_n c) from end l m n
+    → DrawnIn view (ink_of lights level (drawn_d (triangle t))) (shape_on (triangle t)) l m n
 unfolding rules_of
-whole-drawn palette view level t r c {from} {end} law lawful er o ef ee d =
+whole-drawn lights level view t r c {from} {end} law lawful er o ef ee d =
     drawn_ext _ (clip_ext view.x0 view.y0 view.x1 view.y1 (λ x y. offset_n c (x + origin) (y + origin)) (shape_on (triangle t)) pixel)
     (drawn_ext _
     (clip_shrink view.x0 view.y0 view.x1 view.y1 view.x0 from view.x1 end (λ x y. offset_n c (x + origin) (y + origin))

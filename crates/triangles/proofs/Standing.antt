@@ -123,9 +123,9 @@ module _ (h low high : ℕ) (some : 0 < h) (rises : low ≤ high) where
 pub found_pos : {h d : ℕ} (k : ℕ) → d ≡ by_zero h 1 (under_d h k) → 0 < h → 0 < d
 found_pos {h} {d} k e p = omega (arith, e ∙ whole_wide h k p, whole_pos h k p)
 
-module _ (xa ya xb yb : ℕ) (n : Near xa ya xb yb) (rises : ya < yb) {h foot r l d m i : ℕ} (eh : h ≡ yb - ya) (ef : foot ≡ h * xa) (er : r ≡ xb - xa) (el : l ≡ xa - xb) where
+module _ (xa ya xb yb : ℕ) (n : Near xa ya xb yb) (rises : ya < yb) {h foot r l d i : ℕ} (eh : h ≡ yb - ya) (ef : foot ≡ h * xa) (er : r ≡ xb - xa) (el : l ≡ xa - xb) where
   pub found-fit : (d ≡ by_zero h 1 (under_d h (r + l))) × (d ≤ whole_most) → Inverse (2 ^ 32) h i
-      → SideFit (record { y = ya; h = h; right = r; left = l; start = foot - l; inverse = i; d = d; m = m })
+      → SideFit (record { y = ya; h = h; right = r; left = l; start = foot - l; inverse = i; d = d })
   found-fit ed ei =
       record {
         some = omega arith;
@@ -137,7 +137,7 @@ module _ (xa ya xb yb : ℕ) (n : Near xa ya xb yb) (rises : ya < yb) {h foot r 
         inverted = ei;
       }
 
-  pub found-is : d ≡ by_zero h 1 (under_d h (r + l)) → SideIs xa ya xb yb (record { y = ya; h = h; right = r; left = l; start = foot - l; inverse = i; d = d; m = m })
+  pub found-is : d ≡ by_zero h 1 (under_d h (r + l)) → SideIs xa ya xb yb (record { y = ya; h = h; right = r; left = l; start = foot - l; inverse = i; d = d })
   found-is ed =
       record {
         first = refl;
@@ -166,7 +166,7 @@ stands s y f p q e g =
     (omega (arith, r.0), omega (arith, r.1), record { low-is = rw (e, g); high_is = rw (e, g); most = omega (arith, r.1) })
 
 pub found_cut : (s : Side) (y : ℕ) {low high column end : ℕ} → SideFit s → Stands s y low high → column ≡ low / s.h → end ≡ (high + s.h - 1) / s.h
-    → CutOf s y (record { h = s.h; low = low; high = high; column = column; end = end; d = s.d; m = s.m })
+    → CutOf s y (record { h = s.h; low = low; high = high; column = column; end = end; d = s.d })
 found_cut s y {low} {high} f t e g =
     let rise : high ≡ low + (s.right + s.left) = omega (arith, t.high_is, t.low-is) in
     let far : dist low high ≡ s.right + s.left = omega arith in
@@ -187,5 +187,4 @@ found_cut s y {low} {high} f t e g =
           };
       left = λ x. rw (t.low-is, t.high_is);
       over = refl;
-      scale = refl;
     }

@@ -1,165 +1,78 @@
 // A row between two sides: what they leave in part is blended pixel by pixel, what lies whole between them is filled.
-ghost use Rattle.std.specs.Prelude.{◌≡◌, ◌+◌, ◌*◌, ◌≤◌, ◌<◌, length};
-ghost use Rattle.numbers.specs.inner.Offset.{offset_most};
-ghost use Rattle.blending.specs.inner.Scale.{Scaled};
-ghost use Rattle.triangles.specs.inner.Side.{left_of, CutFit};
-ghost use Rattle.triangles.specs.inner.Row.{right_of, between_of, RowDrawn, Stretch, Ready};
+ghost use Rattle.std.specs.Prelude.{◌≡◌, ℕ, ◌*◌, ◌≤◌, ◌<◌, length};
+ghost use Rattle.triangles.specs.inner.Row.{between_of, RowDrawn, Stretch, Covering, Gives, Alike, Ready};
 
 use super::side::Cut;
 use numbers::ORIGIN;
-use page::{View, clamp_offset};
+use page::{Ink, View, clamp_offset};
+use std::ops::Range;
 
-// What a cut has on its left in the pixel of offset z.
-fn left_of(cut: Cut, z: u64) -> u64
-    requires { CutFit cut × (z ≤ offset_most) }
-    ensures { (result ≡ left_of cut z) × (result ≤ cut.d) }
-{
-    edges::under_at(cut.h, cut.low, cut.high, z)
+// The inks of one level for the shares of two sides and for what lies between both.
+#[derive(Drop)]
+pub struct Inks<I: Ink> {
+    pub first: I,
+    pub second: I,
+    pub both: I,
+    pub ghost whole: { I.whole both ≡ I.whole first * I.whole second },
+    pub ghost alike: { Alike (I.blends first) (I.whole first) (I.blends both) (I.whole both) },
+    pub ghost alike_too: { Alike (I.blends second) (I.whole second) (I.blends both) (I.whole both) },
 }
 
-// What it has there on its right.
-fn right_of(cut: Cut, z: u64) -> u64
-    requires { CutFit cut × (z ≤ offset_most) }
-    ensures { (result ≡ right_of cut z) × (result ≤ cut.d) }
-{
-    cut.d - left_of(cut, z)
-}
-
-// What lies there between two cuts.
-fn between(a: Cut, b: Cut, z: u64) -> u64
-    requires { CutFit a × CutFit b × (z ≤ offset_most) }
-    ensures { (result ≡ between_of a b z) × (result ≤ a.d * b.d) }
-{
-    numbers::distance(
-        numbers::product(left_of(a, z), b.d),
-        numbers::product(left_of(b, z), a.d),
-    )
-}
-
-// Blends columns from to end of row y by what a cut has on its right; hands back how many pixels it touched.
-fn blend_right(
+// Blends columns of row y, each by the coverage of its offset; hands back how many pixels it touched.
+fn blend_columns<I: Ink, F: Fn(u64) -> u64>(
     page: &mut [u8],
-    palette: &[u16],
+    ink: I,
     view: View,
-    cut: Cut,
-    level: u8,
     y: usize,
-    from: usize,
-    end: usize,
+    columns: Range<usize>,
+    coverage: F,
 ) -> u64
-    requires { Stretch palette.now view (length page.old) y from end × CutFit cut × Scaled palette.now cut.d cut.m }
-    ensures { RowDrawn palette.now view level cut.d (right_of cut) y from end page.old page.new result }
+    requires stretch { Stretch view (length page.old) y columns.start columns.end }
+    requires covering { Covering (F.pre coverage) (F.post coverage) (I.whole ink) }
+    ensures few { result ≤ columns.end }
+    ensures drawn { (n : ℕ → ℕ) → Gives (F.post coverage) n → RowDrawn view (I.blends ink) n y columns.start columns.end page.old page.new result }
 {
     let row = y * view.w;
     let mut touched: u64 = 0;
-    let mut x = from;
-    while x < end {
-        let n = right_of(cut, x as u64 + ORIGIN);
-        page::put(page, palette, row + x, level, n, cut.d, cut.m);
+    for x in columns {
+        let n = coverage(x as u64 + ORIGIN);
+        page::put(page, ink, row + x, n);
         touched += page::touched(n);
-        x += 1;
-    }
-    touched
-}
-
-// Blends columns from to end of row y by what a cut has on its left; hands back how many pixels it touched.
-fn blend_left(
-    page: &mut [u8],
-    palette: &[u16],
-    view: View,
-    cut: Cut,
-    level: u8,
-    y: usize,
-    from: usize,
-    end: usize,
-) -> u64
-    requires { Stretch palette.now view (length page.old) y from end × CutFit cut × Scaled palette.now cut.d cut.m }
-    ensures { RowDrawn palette.now view level cut.d (left_of cut) y from end page.old page.new result }
-{
-    let row = y * view.w;
-    let mut touched: u64 = 0;
-    let mut x = from;
-    while x < end {
-        let n = left_of(cut, x as u64 + ORIGIN);
-        page::put(page, palette, row + x, level, n, cut.d, cut.m);
-        touched += page::touched(n);
-        x += 1;
-    }
-    touched
-}
-
-// Blends columns from to end of row y by what lies between two cuts, over d, whose scale is m; hands back how many pixels it touched.
-fn blend_between(
-    page: &mut [u8],
-    palette: &[u16],
-    view: View,
-    a: Cut,
-    b: Cut,
-    d: u64,
-    m: u64,
-    level: u8,
-    y: usize,
-    from: usize,
-    end: usize,
-) -> u64
-    requires { Stretch palette.now view (length page.old) y from end × CutFit a × CutFit b × (d ≡ a.d * b.d) × Scaled palette.now d m }
-    ensures { RowDrawn palette.now view level (a.d * b.d) (between_of a b) y from end page.old page.new result }
-{
-    let row = y * view.w;
-    let mut touched: u64 = 0;
-    let mut x = from;
-    while x < end {
-        let n = between(a, b, x as u64 + ORIGIN);
-        page::put(page, palette, row + x, level, n, d, m);
-        touched += page::touched(n);
-        x += 1;
     }
     touched
 }
 
 // Draws the columns of the clip in row y between two cuts, of which a leaves off before b begins.
-fn draw_apart(
-    page: &mut [u8],
-    palette: &[u16],
-    view: View,
-    a: Cut,
-    b: Cut,
-    level: u8,
-    y: usize,
-) -> u64
-    requires { Ready palette.now view (length page.old) level a b y × (a.end ≤ b.column) }
-    ensures { RowDrawn palette.now view level (a.d * b.d) (between_of a b) y view.x0 view.x1 page.old page.new result }
+fn draw_apart<I: Ink>(page: &mut [u8], inks: &Inks<I>, view: View, a: Cut, b: Cut, y: usize) -> u64
+    requires { Ready view (length page.old) a b (I.whole inks.now.first) (I.whole inks.now.second) y × (a.end ≤ b.column) }
+    ensures { RowDrawn view (I.blends inks.now.both) (between_of a b) y view.x0 view.x1 page.old page.new result }
 {
     let p = clamp_offset(view.x0, view.x1, a.column);
     let q = clamp_offset(view.x0, view.x1, a.end);
     let r = clamp_offset(view.x0, view.x1, b.column);
     let s = clamp_offset(view.x0, view.x1, b.end);
-    let left = blend_right(page, palette, view, a, level, y, p, q);
-    let whole = page::fill_row(page, view, level, y, q, r);
-    let right = blend_left(page, palette, view, b, level, y, r, s);
+    let left = blend_columns(page, inks.first, view, y, p..q, |z| a.right_of(z));
+    let whole = page::fill_row(page, view, inks.both.level(), y, q, r);
+    let right = blend_columns(page, inks.second, view, y, r..s, |z| b.left_of(z));
     left + whole + right
 }
 
-// Draws the columns of the clip in row y between two cuts, whose shares are over d together, with the scale m. They are handed in from left to
-// right; any others take longer.
-pub(crate) fn draw_row(
+// Draws the columns of the clip in row y between two cuts. They are handed in from left to right; any others take longer.
+pub(crate) fn draw_row<I: Ink>(
     page: &mut [u8],
-    palette: &[u16],
+    inks: &Inks<I>,
     view: View,
     a: Cut,
     b: Cut,
-    d: u64,
-    m: u64,
-    level: u8,
     y: usize,
 ) -> u64
-    requires { Ready palette.now view (length page.old) level a b y × (d ≡ a.d * b.d) × Scaled palette.now d m }
-    ensures { RowDrawn palette.now view level (a.d * b.d) (between_of a b) y view.x0 view.x1 page.old page.new result }
+    requires { Ready view (length page.old) a b (I.whole inks.now.first) (I.whole inks.now.second) y }
+    ensures { RowDrawn view (I.blends inks.now.both) (between_of a b) y view.x0 view.x1 page.old page.new result }
 {
     if a.end <= b.column {
-        return draw_apart(page, palette, view, a, b, level, y);
+        return draw_apart(page, inks, view, a, b, y);
     }
-    let from = clamp_offset(view.x0, view.x1, numbers::lesser(a.column, b.column));
-    let end = clamp_offset(view.x0, view.x1, numbers::greater(a.end, b.end));
-    blend_between(page, palette, view, a, b, d, m, level, y, from, end)
+    let from = clamp_offset(view.x0, view.x1, a.column.min(b.column));
+    let end = clamp_offset(view.x0, view.x1, a.end.max(b.end));
+    blend_columns(page, inks.both, view, y, from..end, |z| a.between(b, z))
 }

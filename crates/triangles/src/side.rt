@@ -1,15 +1,17 @@
 // A side of a triangle, and where it stands in a row. Corners, rows and columns are at offsets.
 ghost use Rattle.std.specs.Prelude.{◌≡◌, ◌+◌, ◌-◌, ◌*◌, ◌^◌, ◌/◌, ◌≤◌, ◌<◌};
 ghost use Rattle.numbers.specs.inner.Inverse.{Inverse};
+ghost use Rattle.numbers.specs.inner.Offset.{offset_most};
 ghost use Rattle.edges.specs.inner.Strip.{span_most, height_most};
 ghost use Rattle.sides.specs.inner.Offsets.{Near};
-ghost use Rattle.lights.specs.inner.Palette.{Palette};
-ghost use Rattle.blending.specs.inner.Scale.{Scaled};
-ghost use Rattle.triangles.specs.inner.Side.{SideFit, SideIs, CutOf};
+ghost use Rattle.triangles.specs.inner.Side.{left_of, SideFit, SideIs, CutFit, CutOf};
+ghost use Rattle.triangles.specs.inner.Row.{right_of, between_of};
+
+use shapes::Point;
 
 // A side that goes up h rows from row y on, and over them so many columns to the right, or to the left. In a row it stands between two
 // places that are `right` + `left` apart, in units of which h make a column; `start` is the lower one in its first row. The inverse of h
-// makes a quotient a product. Shares are over d, whose scale is m.
+// makes a quotient a product. Shares are over d.
 #[derive(Clone, Copy)]
 pub struct Side {
     pub y: u64,
@@ -19,7 +21,6 @@ pub struct Side {
     pub start: u64,
     pub inverse: u64,
     pub d: u64,
-    pub m: u64,
 }
 
 // A side in one row: it stands between low and high, and leaves a pixel in part only in columns from `column` to before `end`.
@@ -31,7 +32,6 @@ pub struct Cut {
     pub column: u64,
     pub end: u64,
     pub d: u64,
-    pub m: u64,
 }
 
 // The least whole number above 2^32 over h.
@@ -50,42 +50,67 @@ fn column_of(p: u64, h: u64, inverse: u64) -> u64
     p * inverse / 4294967296
 }
 
-// The side from (xa, ya) up to (xb, yb).
-pub(crate) fn side_of(palette: &[u16], xa: u64, ya: u64, xb: u64, yb: u64) -> Side
-    requires { Palette palette.now × Near xa ya xb yb × (ya < yb) }
-    ensures { SideFit result × SideIs xa ya xb yb result × Scaled palette.now result.d result.m }
-{
-    let h = yb - ya;
-    let right = numbers::less(xb, xa);
-    let left = numbers::less(xa, xb);
-    let d = edges::whole_of(h, right + left);
-    Side {
-        y: ya,
-        h,
-        right,
-        left,
-        start: edges::scaled(h, xa) - left,
-        inverse: inverse_of(h),
-        d,
-        m: blending::scale_of(palette, d),
+impl Side {
+    // The side from corner a up to corner b.
+    pub(crate) fn new(a: Point, b: Point) -> Side
+        requires { Near a.x a.y b.x b.y × (a.y < b.y) }
+        ensures { SideFit result × SideIs a.x a.y b.x b.y result × (0 < result.d) × (result.d ≤ 2 ^ 30) }
+    {
+        let h = b.y - a.y;
+        let right = b.x.saturating_sub(a.x);
+        let left = a.x.saturating_sub(b.x);
+        Side {
+            y: a.y,
+            h,
+            right,
+            left,
+            start: edges::scaled(h, a.x) - left,
+            inverse: inverse_of(h),
+            d: edges::whole_of(h, right + left),
+        }
+    }
+
+    // The side in row y, which it crosses.
+    pub(crate) fn cut_at(self, y: u64) -> Cut
+        requires { SideFit self × (self.y ≤ y) × (y < self.y + self.h) }
+        ensures { CutOf self y result }
+    {
+        let i = y - self.y;
+        let low = self.start + edges::scaled(i, self.right) - edges::scaled(i, self.left);
+        let high = low + self.right + self.left;
+        Cut {
+            h: self.h,
+            low,
+            high,
+            column: column_of(low, self.h, self.inverse),
+            end: column_of(high + self.h - 1, self.h, self.inverse),
+            d: self.d,
+        }
     }
 }
 
-// A side in row y, which it crosses.
-pub(crate) fn cut_of(side: Side, y: u64) -> Cut
-    requires { SideFit side × (side.y ≤ y) × (y < side.y + side.h) }
-    ensures { CutOf side y result }
-{
-    let i = y - side.y;
-    let low = side.start + edges::scaled(i, side.right) - edges::scaled(i, side.left);
-    let high = low + side.right + side.left;
-    Cut {
-        h: side.h,
-        low,
-        high,
-        column: column_of(low, side.h, side.inverse),
-        end: column_of(high + side.h - 1, side.h, side.inverse),
-        d: side.d,
-        m: side.m,
+impl Cut {
+    // What the cut has on its left in the pixel of offset z.
+    pub(crate) fn left_of(self, z: u64) -> u64
+        requires { CutFit self × (z ≤ offset_most) }
+        ensures { (result ≡ left_of self z) × (result ≤ self.d) }
+    {
+        edges::under_at(self.h, self.low, self.high, z)
+    }
+
+    // What it has there on its right.
+    pub(crate) fn right_of(self, z: u64) -> u64
+        requires { CutFit self × (z ≤ offset_most) }
+        ensures { (result ≡ right_of self z) × (result ≤ self.d) }
+    {
+        self.d - self.left_of(z)
+    }
+
+    // What lies there between it and another.
+    pub(crate) fn between(self, b: Cut, z: u64) -> u64
+        requires { CutFit self × CutFit b × (z ≤ offset_most) }
+        ensures { (result ≡ between_of self b z) × (result ≤ self.d * b.d) }
+    {
+        numbers::product(self.left_of(z), b.d).abs_diff(numbers::product(b.left_of(z), self.d))
     }
 }

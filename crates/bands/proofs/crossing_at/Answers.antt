@@ -1,7 +1,7 @@
 -- Quotient and remainder of l + 2·s·i by 2·l; as s is at most l and i below l, the quotient is at most l. Column 0 has l, which is
 -- less than 2·l.
-use mathlib.Core.Path.{◌≡◌, sym}
-use Prim.Native.Nat.{ℕ, ◌+◌, ◌*◌, ◌≤◌, ◌<◌}
+use mathlib.Core.Path.{◌≡◌, refl, sym}
+use Prim.Native.Nat.{ℕ, ◌+◌, ◌*◌, ◌<◌}
 use native.Mathlib.Omega.{arith}
 use lib.Arith.{digits_div, digits_mod}
 use Rattle.bands.specs.Line.{row_of, rest_of}
@@ -22,8 +22,4 @@ returns-then-i-eq0 c =
 
 pub returns : goal.returns
 unfolding row_of rest_of
-returns c =
-    let a = c.args in
-    let u = c.product.ensures.is in
-    let q : row_of a.l a.s a.i ≤ a.l = row_le a.l a.s a.i (omega arith) (omega arith) in
-    (rw u, rw (c.remainder.ensures.is, u), rw u q, c.remainder.ensures.less)
+returns c = let a = c.args in (refl, refl, row_le a.l a.s a.i (omega arith) (omega arith), omega arith)

@@ -6,4 +6,4 @@ use Rattle.bands.proofs.frame_of.Goals as goal
 pub returns : goal.returns
 returns c =
     frame_is c.args.line (line_lawful c.args.line c.requires)
-    (rw (c.ordered.ensures, c.exchanged.ensures, c.distance-2.ensures, c.distance.ensures, c.ends_of-e.ensures) at c.rising_frame.ensures)
+    (rw (c.ordered.ensures, c.exchanged.ensures, c.abs_diff-2.ensures, c.abs_diff.ensures, c.from-e.ensures) at c.rising_frame.ensures)

@@ -5,8 +5,8 @@ use Rattle.bands.proofs.whole_of.Goals as goal
 
 pub returns-then-exact : goal.returns-then-exact
 returns-then-exact c =
-    rw (c.if-exact.true, whole-greater c.args.l c.args.s c.requires.1, c.greater.ensures, c.product.ensures.is)
+    rw (c.if-exact.true, whole-greater c.args.l c.args.s c.requires.1) c.max.ensures
 
-pub returns : goal.returns
+pub returns-else-exact : goal.returns-else-exact
 unfolding approx_whole
-returns c = rw c.if-exact.false
+returns-else-exact c = rw c.if-exact.false

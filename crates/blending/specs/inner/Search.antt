@@ -1,5 +1,5 @@
 -- How the code of a light is found: by the middles that it lies between, from a guess on.
-use Rattle.std.specs.Prelude.{◌⊎◌, ◌≡◌, ℕ, ◌+◌, ◌*◌, ◌≤◌, ◌<◌}
+use Rattle.std.specs.Prelude.{Option, MatchOption, ◌⊎◌, ◌≡◌, ℕ, ◌+◌, ◌*◌, ◌≤◌, ◌<◌}
 use Rattle.lights.specs.inner.Palette.{middle}
 
 -- x over d lies from middle a to before middle b
@@ -17,7 +17,7 @@ pub record NextTwo (light : ℕ → ℕ) (x d a r : ℕ) : Type 0 where
   pub low : middle light (a + r) * d ≤ x
   pub high : r < 2 → x < middle light (a + r + 1) * d
 
--- the code c of x over d, found from guess a; or 256, where x over d is past the two codes after a
-pub record NearGuess (light : ℕ → ℕ) (x d a c : ℕ) : Type 0 where
-  pub found : c < 256 → Between light x d c (c + 1)
-  pub past : 256 ≤ c → (a ≤ 252) × (middle light (a + 3) * d ≤ x)
+-- the code of x over d, found from guess a; or none, where x over d is past the two codes after a
+abbrev pub NearGuess : (ℕ → ℕ) → ℕ → ℕ → ℕ → Option ℕ → Type 0
+NearGuess light x d a c =
+    MatchOption c ((a ≤ 252) × (middle light (a + 3) * d ≤ x)) (λ k. (k ≤ 255) × Between light x d k (k + 1))

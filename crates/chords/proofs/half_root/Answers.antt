@@ -1,21 +1,20 @@
 -- The search from t finds what the search from y does.
-use mathlib.Core.Path.{◌≡◌, sym, ◌∙◌}
-use native.Mathlib.Omega.{arith}
-use Rattle.chords.proofs.Height.{half_root_none, half_root_next, half_root_here}
+use Rattle.std.proofs.Common.{◌≡◌, sym, ◌∙◌, ◌+◌, ◌-◌, arith}
+use Rattle.chords.proofs.Height.{half_root_none, half_root_from, half_root_found}
 use Rattle.chords.proofs.half_root.Goals as goal
 
 pub returns-then-odd-m : goal.returns-then-odd-m
 returns-then-odd-m c =
-    let l = c.loop-t in
-    sym (half_root_here l.t _ c.if-odd-m.true) ∙ l.invariant.1
+    let t = c.loop-t.t in
+    let e : t - 1 + 1 ≡ t = omega arith in
+    sym (half_root_found (t - 1) c.args.m c.if-odd-m.true) ∙ rw e c.loop-t.invariant
 
 pub loop-t-preserved : goal.loop-t-preserved
 loop-t-preserved c =
-    let l = c.loop-t in
-    (omega arith, half_root_next l.t _ (omega arith) c.if-odd-m.false ∙ l.invariant.1)
+    let t = c.loop-t.t in
+    sym (half_root_from t c.args.m (t - 1) (omega arith) c.if-odd-m.false) ∙ c.loop-t.invariant
 
 pub returns : goal.returns
 returns c =
-    let l = c.loop-t in
-    let e : l.t ≡ 0 = omega arith in
-    cc (half_root_none c.args.m)
+    let e : c.loop-t.t ≡ 0 = omega arith in
+    sym (half_root_none c.args.m) ∙ rw e at c.loop-t.invariant

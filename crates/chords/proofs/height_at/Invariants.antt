@@ -3,8 +3,8 @@ use Prim.Native.Nat.{◌*◌, ◌-◌, ◌<◌}
 use Rattle.chords.specs.inner.Circle.{Around}
 use Rattle.chords.proofs.height_at.Given as goal
 
-abbrev pub invariant-loop-low : goal.invariant-loop-low
-invariant-loop-low l = Around (256 * l.radius) l.m l.low l.high × (l.low < l.high)
+abbrev pub invariant-loop-bracket : goal.invariant-loop-bracket
+invariant-loop-bracket l = Around (256 * l.radius) l.m l.bracket.low l.bracket.high × (l.bracket.low < l.bracket.high)
 
-abbrev pub decreases-loop-low : goal.decreases-loop-low
-decreases-loop-low l = l.high - l.low
+abbrev pub decreases-loop-bracket : goal.decreases-loop-bracket
+decreases-loop-bracket l = l.bracket.high - l.bracket.low

@@ -1,5 +1,5 @@
--- The heights before k = radius - left are held, the rest are 0, and y is not below the next one.
-use mathlib.Core.Path.{◌≡◌, sym, ◌∙◌, subst}
+-- The heights before k are held, the rest are 0, and y is not below the next one.
+use mathlib.Core.Path.{◌≡◌, sym, ◌∙◌}
 use mathlib.Core.Logic.{⊎_elim}
 use Prim.Native.Nat.{ℕ, ◌+◌, ◌-◌, ◌*◌, ◌≤◌, ◌<◌}
 use native.Mathlib.Omega.{arith}
@@ -9,7 +9,6 @@ use borrow.Author.Count.{below_more}
 use Rattle.numbers.proofs.Order.{lt_or_le}
 use Rattle.chords.specs.Circle.{half_root, height_of}
 use Rattle.chords.proofs.Height.{half_root_le, half_root_from, half_root_high, height_beyond}
-use Rattle.chords.proofs.heights.Invariants.{Filled}
 use Rattle.chords.proofs.heights.Goals as goal
 
 -- next is the height at k: not above y, and not below the height at k + 1
@@ -18,56 +17,47 @@ record Found (R k y next : ℕ) : Type 0 where
   most : next ≤ y
   above : 262144 * (R * R - (k + 1) * (k + 1)) < (2 * next + 1) * (2 * next + 1)
 
-found : (R k y : ℕ) → y ≤ 256 * R → 262144 * (R * R - k * k) < (2 * y + 1) * (2 * y + 1) → Found R k y (half_root y (262144 * (R * R - k * k)))
+found : (R k y : ℕ) {next : ℕ} → y ≤ 256 * R → 262144 * (R * R - k * k) < (2 * y + 1) * (2 * y + 1) → next ≡ half_root y (262144 * (R * R - k * k)) → Found R k y next
 unfolding height_of
-found R k y h₁ h₂ =
+found R k y h₁ h₂ e =
     let m = 262144 * (R * R - k * k) in
-    record {
+    rw e
+    (record {
       is = sym (half_root_from (256 * R) m y h₁ h₂);
       most = half_root_le y m;
       above = omega (arith, half_root_high y m h₂);
-    }
+    })
 
 pub overflow_cast-hs : goal.overflow_cast-hs
 overflow_cast-hs c =
-    let R : ℕ = c.args.radius in
-    let k : ℕ = R - c.loop-left.left in
-    let here : Found R k c.loop-left.y c.next_height-next.result = rw c.next_height-next.ensures (found R k c.loop-left.y c.loop-left.invariant.1.0 c.loop-left.invariant.1.1) in
-    omega (arith, here.most)
+    let l = c.loop-k in
+    omega (arith, (found c.args.radius l.k l.y l.invariant.0 l.invariant.1 c.next_height-next.ensures).most)
 
 pub overflow_sub-step : goal.overflow_sub-step
-overflow_sub-step c =
-    let R : ℕ = c.args.radius in
-    let k : ℕ = R - c.loop-left.left in
-    let here : Found R k c.loop-left.y c.next_height-next.result = rw c.next_height-next.ensures (found R k c.loop-left.y c.loop-left.invariant.1.0 c.loop-left.invariant.1.1) in
-    here.most
+overflow_sub-step c = let l = c.loop-k in (found c.args.radius l.k l.y l.invariant.0 l.invariant.1 c.next_height-next.ensures).most
 
-pub loop-left-preserved : goal.loop-left-preserved
-loop-left-preserved c =
+pub loop-k-preserved : goal.loop-k-preserved
+loop-k-preserved c =
     let R : ℕ = c.args.radius in
-    let k : ℕ = R - c.loop-left.left in
-    let here : Found R k c.loop-left.y c.next_height-next.result = rw c.next_height-next.ensures (found R k c.loop-left.y c.loop-left.invariant.1.0 c.loop-left.invariant.1.1) in
-    let l = c.loop-left in
+    let l = c.loop-k in
+    let k : ℕ = l.k in
     let y = c.next_height-next.result in
-    let next : k + 1 ≡ R - (l.left - 1) = omega arith in
-    let filled : Filled c.args.hs.now R (k + 1) (set l.hs k y) y = (
+    let here = found R k l.y l.invariant.0 l.invariant.1 c.next_height-next.ensures in (
       omega (arith, here.most),
       here.above,
-      length-set l.hs k y ∙ l.invariant.1.2,
+      length-set l.hs k y ∙ l.invariant.2,
       below_more (λ (j : ℕ). get_or (set l.hs k y) j 0 ≡ height_of R j) k
-          (λ j h. get_or-set_other l.hs k j y 0 (λ q. omega arith) ∙ l.invariant.1.3 j h)
+          (λ j h. get_or-set_other l.hs k j y 0 (λ q. omega arith) ∙ l.invariant.3 j h)
           (get_or-set_same l.hs k y 0 (omega arith) ∙ here.is),
-      λ j h. get_or-set_other l.hs k j y 0 (λ q. omega arith) ∙ l.invariant.1.4 j (omega arith),
-    ) in
-    (omega arith, subst (λ (n : ℕ). Filled c.args.hs.now R n (set l.hs k y) y) next filled)
+      λ j h. get_or-set_other l.hs k j y 0 (λ q. omega arith) ∙ l.invariant.4 j (omega arith),
+    )
 
 pub returns : goal.returns
 returns c =
     let R : ℕ = c.args.radius in
-    let r = R in
-    let l = c.loop-left in
+    let l = c.loop-k in
     record {
       each = λ j.
-          ⊎_elim (λ h. l.invariant.1.3 j (omega arith)) (λ h. l.invariant.1.4 j (omega arith) ∙ sym (height_beyond r j h)) (lt_or_le j r);
-      size = l.invariant.1.2;
+          ⊎_elim (λ h. l.invariant.3 j (omega arith)) (λ h. l.invariant.4 j (omega arith) ∙ sym (height_beyond R j h)) (lt_or_le j R);
+      size = l.invariant.2;
     }

@@ -1,4 +1,4 @@
--- The heights before k = radius - left are held, the rest are 0, and y is not below the next one.
+-- The heights before k are held, the rest are 0, and y is not below the next one.
 use mathlib.Core.Path.{◌≡◌}
 use mathlib.Core.List.{List}
 use Prim.Native.Nat.{ℕ, ◌+◌, ◌-◌, ◌*◌, ◌≤◌, ◌<◌}
@@ -15,8 +15,5 @@ Filled zeros R k hs y =
     × ((j : ℕ) → j < k → get_or hs j 0 ≡ height_of R j)
     × ((j : ℕ) → k ≤ j → get_or hs j 0 ≡ 0)
 
-abbrev pub invariant-loop-left : goal.invariant-loop-left
-invariant-loop-left l = (l.left ≤ l.radius) × Filled l.initial.hs l.radius (l.radius - l.left) l.hs l.y
-
-abbrev pub decreases-loop-left : goal.decreases-loop-left
-decreases-loop-left l = l.left
+abbrev pub invariant-loop-k : goal.invariant-loop-k
+invariant-loop-k l = Filled l.initial.hs l.radius l.k l.hs l.y

@@ -1,6 +1,5 @@
 -- An array of zeros holds the heights of radius 0.
-use mathlib.Core.Path.{refl, sym, ◌∙◌}
-use native.Mathlib.Omega.{arith}
+use Rattle.std.proofs.Common.{refl, sym, ◌∙◌, arith}
 use Rattle.chords.proofs.Height.{height_beyond}
 use Rattle.circles.proofs.hole_heights.Goals as goal
 

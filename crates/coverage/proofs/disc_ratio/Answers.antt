@@ -9,18 +9,16 @@ use Rattle.coverage.proofs.Discs.{disc_drawn}
 use Rattle.chords.proofs.Chord.{apart_le}
 use Rattle.coverage.proofs.disc_ratio.Goals as goal
 
-pub chords_of-requires : goal.chords_of-requires
-chords_of-requires c =
-    let o = apart_le _ _ _ _ c.point_of-c.ensures c.point_of-p.ensures c.apart_of.ensures c.apart_of-2.ensures in
+pub chords_of-n-requires : goal.chords_of-n-requires
+chords_of-n-requires c =
+    let o = apart_le _ _ _ _ c.centre-c.ensures c.new-p.ensures c.apart_of-a.ensures c.apart_of-b.ensures in
     ((disc_lawful c.args.disc c.requires.0).most, o.0, o.1)
 
 pub returns : goal.returns
 unfolding rules_of
 returns c =
-    let centre : let d = c.args.disc in c.point_of-c.result ≡ point_of d.x d.y = let told = c.struct_told-1.given in
-    point_kept (record { sfits = told.0.1 }) (record { sfits = told.1.0.1 }) c.point_of-c.ensures in
-    let pixel : let a = c.args in c.point_of-p.result ≡ point_of a.x a.y = point_kept c.ranges.x c.ranges.y c.point_of-p.ensures in
-    let e : c.chords_of.result ≡ drawn_n (disc c.args.disc) c.args.x c.args.y =
-    rw (c.chords_of.ensures.0, c.apart_of.ensures, c.apart_of-2.ensures, centre, pixel)
+    let pixel : let a = c.args in c.new-p.result ≡ point_of a.x a.y = point_kept c.ranges.x c.ranges.y c.new-p.ensures in
+    let e : c.chords_of-n.result ≡ drawn_n (disc c.args.disc) c.args.x c.args.y =
+    rw (c.chords_of-n.ensures.0, c.apart_of-a.ensures, c.apart_of-b.ensures, c.centre-c.ensures, pixel)
     (disc_drawn (in_range_lem c.args.x c.requires.1) (in_range_lem c.args.y c.requires.2) c.args.disc (disc_lawful c.args.disc c.requires.0)) in
     λ i. record { n = e i; d = 512 }

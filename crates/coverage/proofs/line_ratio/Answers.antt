@@ -15,8 +15,8 @@ returns-then-a-f c =
     let px : InRange c.args.x = in_range_lem c.args.x c.requires.1 in
     let py : InRange c.args.y = in_range_lem c.args.y c.requires.2 in
     let whole : c.whole_of-d.result ≡ drawn_d (line c.args.line) = c.whole_of-d.ensures ∙ whole-drawn c.frame_of-f.ensures in
-    let pixel : c.point_of-p.result ≡ point_of c.args.x c.args.y = point_kept c.ranges.x c.ranges.y c.point_of-p.ensures in
-    let along : c.either-a.result ≡ cond c.frame_of-f.result.steep (offset_of c.args.y) (offset_of c.args.x) = rw pixel at c.either-a.ensures in
+    let pixel : c.new-p.result ≡ point_of c.args.x c.args.y = point_kept c.ranges.x c.ranges.y c.new-p.ensures in
+    let along : c.turned-a.result.x ≡ cond c.frame_of-f.result.steep (offset_of c.args.y) (offset_of c.args.x) = rw pixel at c.turned-a.ensures.0 in
     let e = drawn-left c.frame_of-f.ensures px py (rw along at c.if-a-f.true) in
     let d = whole in
     λ i. record { n = e i; d = d i }
@@ -26,18 +26,18 @@ returns-then-f-a c =
     let px : InRange c.args.x = in_range_lem c.args.x c.requires.1 in
     let py : InRange c.args.y = in_range_lem c.args.y c.requires.2 in
     let whole : c.whole_of-d.result ≡ drawn_d (line c.args.line) = c.whole_of-d.ensures ∙ whole-drawn c.frame_of-f.ensures in
-    let pixel : c.point_of-p.result ≡ point_of c.args.x c.args.y = point_kept c.ranges.x c.ranges.y c.point_of-p.ensures in
-    let along : c.either-a.result ≡ cond c.frame_of-f.result.steep (offset_of c.args.y) (offset_of c.args.x) = rw pixel at c.either-a.ensures in
+    let pixel : c.new-p.result ≡ point_of c.args.x c.args.y = point_kept c.ranges.x c.ranges.y c.new-p.ensures in
+    let along : c.turned-a.result.x ≡ cond c.frame_of-f.result.steep (offset_of c.args.y) (offset_of c.args.x) = rw pixel at c.turned-a.ensures.0 in
     let e = drawn-right c.frame_of-f.ensures px py (rw along at c.if-f-a.true) in
     let d = whole in
     λ i. record { n = e i; d = d i }
 
-pub frame_row-g-requires : goal.frame_row-g-requires
-frame_row-g-requires c =
+pub row-requires : goal.row-requires
+row-requires c =
     let px : InRange c.args.x = in_range_lem c.args.x c.requires.1 in
     let py : InRange c.args.y = in_range_lem c.args.y c.requires.2 in
-    let pixel : c.point_of-p.result ≡ point_of c.args.x c.args.y = point_kept c.ranges.x c.ranges.y c.point_of-p.ensures in
-    let across : c.either.result ≡ cond c.frame_of-f.result.steep (offset_of c.args.x) (offset_of c.args.y) = rw pixel at c.either.ensures in
+    let pixel : c.new-p.result ≡ point_of c.args.x c.args.y = point_kept c.ranges.x c.ranges.y c.new-p.ensures in
+    let across : c.turned-a.result.y ≡ cond c.frame_of-f.result.steep (offset_of c.args.x) (offset_of c.args.y) = rw pixel at c.turned-a.ensures.1 in
     let g = c.frame_of-f.ensures in
     (g.high, rw across (across_le g px py))
 
@@ -46,13 +46,13 @@ returns c =
     let px : InRange c.args.x = in_range_lem c.args.x c.requires.1 in
     let py : InRange c.args.y = in_range_lem c.args.y c.requires.2 in
     let whole : c.whole_of-d.result ≡ drawn_d (line c.args.line) = c.whole_of-d.ensures ∙ whole-drawn c.frame_of-f.ensures in
-    let pixel : c.point_of-p.result ≡ point_of c.args.x c.args.y = point_kept c.ranges.x c.ranges.y c.point_of-p.ensures in
-    let along : c.either-a.result ≡ cond c.frame_of-f.result.steep (offset_of c.args.y) (offset_of c.args.x) = rw pixel at c.either-a.ensures in
-    let across : c.either.result ≡ cond c.frame_of-f.result.steep (offset_of c.args.x) (offset_of c.args.y) = rw pixel at c.either.ensures in
+    let pixel : c.new-p.result ≡ point_of c.args.x c.args.y = point_kept c.ranges.x c.ranges.y c.new-p.ensures in
+    let along : c.turned-a.result.x ≡ cond c.frame_of-f.result.steep (offset_of c.args.y) (offset_of c.args.x) = rw pixel at c.turned-a.ensures.0 in
+    let across : c.turned-a.result.y ≡ cond c.frame_of-f.result.steep (offset_of c.args.x) (offset_of c.args.y) = rw pixel at c.turned-a.ensures.1 in
     let column = c.crossing_at-c.ensures in
     let a = c.args in
-    let e : c.row_at.result ≡ drawn_n (line a.line) a.x a.y =
-    rw (c.row_at.ensures, c.rows_of-rows.ensures, column.0, column.1, c.frame_row-g.ensures.0, along, across)
+    let e : c.at-n.result ≡ drawn_n (line a.line) a.x a.y =
+    rw (c.at-n.ensures, c.rows_of-rows.ensures, column.0, column.1, c.row.ensures.0, along, across)
     (drawn-inside c.frame_of-f.ensures px py (rw along at c.if-a-f.false) (rw along at c.if-f-a.false)) in
     let d = whole in
     λ i. record { n = e i; d = d i }

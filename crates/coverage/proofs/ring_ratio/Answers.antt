@@ -16,7 +16,7 @@ use Rattle.coverage.proofs.ring_ratio.Goals as goal
 
 pub chords_of-outer-requires : goal.chords_of-outer-requires
 chords_of-outer-requires c =
-    let near : (c.apart_of-a.result ≤ offset_most + 1) × (c.apart_of-b.result ≤ offset_most + 1) = apart_le _ _ _ _ c.point_of-c.ensures c.point_of-p.ensures c.apart_of-a.ensures c.apart_of-b.ensures in
+    let near : (c.apart_of-a.result ≤ offset_most + 1) × (c.apart_of-b.result ≤ offset_most + 1) = apart_le _ _ _ _ c.centre-c.ensures c.new-p.ensures c.apart_of-a.ensures c.apart_of-b.ensures in
     let o = near in
     ((ring_lawful c.args.ring c.requires.0).circle.most, o.0, o.1)
 
@@ -26,7 +26,7 @@ overflow_sub-ring c =
 
 pub chords_of-inner-requires : goal.chords_of-inner-requires
 chords_of-inner-requires c =
-    let near : (c.apart_of-a.result ≤ offset_most + 1) × (c.apart_of-b.result ≤ offset_most + 1) = apart_le _ _ _ _ c.point_of-c.ensures c.point_of-p.ensures c.apart_of-a.ensures c.apart_of-b.ensures in
+    let near : (c.apart_of-a.result ≤ offset_most + 1) × (c.apart_of-b.result ≤ offset_most + 1) = apart_le _ _ _ _ c.centre-c.ensures c.new-p.ensures c.apart_of-a.ensures c.apart_of-b.ensures in
     let o = near in
     (omega (arith, (ring_lawful c.args.ring c.requires.0).circle.most), o.0, o.1)
 
@@ -40,10 +40,8 @@ overflow_sub-result c =
 pub returns : goal.returns
 unfolding rules_of
 returns c =
-    let centre : let g = c.args.ring in c.point_of-c.result ≡ point_of g.x g.y = let told = c.struct_told-1.given in
-    point_kept (record { sfits = told.0.1 }) (record { sfits = told.1.0.1 }) c.point_of-c.ensures in
-    let pixel : let a = c.args in c.point_of-p.result ≡ point_of a.x a.y = point_kept c.ranges.x c.ranges.y c.point_of-p.ensures in
+    let pixel : let a = c.args in c.new-p.result ≡ point_of a.x a.y = point_kept c.ranges.x c.ranges.y c.new-p.ensures in
     let e : c.chords_of-outer.result - c.chords_of-inner.result ≡ drawn_n (ring c.args.ring) c.args.x c.args.y =
-    rw (c.chords_of-outer.ensures.0, c.chords_of-inner.ensures.0, c.apart_of-a.ensures, c.apart_of-b.ensures, centre, pixel)
+    rw (c.chords_of-outer.ensures.0, c.chords_of-inner.ensures.0, c.apart_of-a.ensures, c.apart_of-b.ensures, c.centre-c.ensures, pixel)
     (ring_drawn (in_range_lem c.args.x c.requires.1) (in_range_lem c.args.y c.requires.2) c.args.ring (ring_lawful c.args.ring c.requires.0)) in
     λ i. record { n = e i; d = 512 }

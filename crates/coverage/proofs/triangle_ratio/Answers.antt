@@ -9,5 +9,5 @@ pub returns : goal.returns
 unfolding rules_of
 returns c =
     let a = c.args in
-    let e : c.triangle_cover-cover.result ≡ cover_of a.triangle a.x a.y = rw (to_z-of_z c.ranges.x, to_z-of_z c.ranges.y) at c.triangle_cover-cover.ensures in
+    let e : c.triangle_cover.result ≡ cover_of a.triangle a.x a.y = rw (to_z-of_z c.ranges.x, to_z-of_z c.ranges.y) at c.triangle_cover.ensures in
     λ i. record { n = (e i).n; d = (e i).d }

@@ -10,32 +10,32 @@ use Rattle.drawing.specs.inner.Walk.{settings_of, shapes_page}
 use Rattle.drawing.proofs.Records.{shape-drawn}
 use Rattle.drawing.proofs.draw_record.Goals as goal
 
-pub draw_lawful-requires : goal.draw_lawful-requires
+pub draw-requires : goal.draw-requires
 unfolding record_refusal
-draw_lawful-requires c =
-    let lawful : shape_refusal c.in-Shape.shape ≡ 0 = record_shape c.in-Shape.shape (subst (λ (r : Record). record_refusal c.args.basis r ≡ 0) c.in-Shape.is c.requires.2) in
-    (c.requires.0, rw c.view_of.ensures c.requires.1, lawful)
+draw-requires g c =
+    let lawful : shape_refusal c.in-Shape.shape ≡ 0 = record_shape c.in-Shape.shape (subst (λ (r : Record). record_refusal c.args.basis r ≡ 0) c.in-Shape.is c.requires.1) in
+    (rw c.view_of.ensures c.requires.0, lawful)
 
 pub returns-in-Setting : goal.returns-in-Setting
 unfolding shapes_page total drawing_of
-returns-in-Setting c =
+returns-in-Setting g c =
     let v = c.ranges.level in
     rw c.in-Setting.is ((λ player. record { page = refl; count = refl }), omega arith, omega arith)
 
 pub returns-in-Shape : goal.returns-in-Shape
 unfolding record_refusal
-returns-in-Shape c =
-    let lawful : shape_refusal c.in-Shape.shape ≡ 0 = record_shape c.in-Shape.shape (subst (λ (r : Record). record_refusal c.args.basis r ≡ 0) c.in-Shape.is c.requires.2) in
+returns-in-Shape g c =
+    let lawful : shape_refusal c.in-Shape.shape ≡ 0 = record_shape c.in-Shape.shape (subst (λ (r : Record). record_refusal c.args.basis r ≡ 0) c.in-Shape.is c.requires.1) in
     let v = c.ranges.level in
-    let shown = rw c.view_of.ensures at c.draw_lawful.ensures in
+    let shown = rw c.view_of.ensures at c.draw.ensures in
     rw c.in-Shape.is (
-      (λ player. (shape-drawn (settings_of c.args.clip c.args.level player) _ c.requires.1 lawful shown).0),
-      (shape-drawn {b = c.args.basis} (settings_of c.args.clip c.args.level 0) _ c.requires.1 lawful shown).1,
+      (λ player. (shape-drawn (settings_of c.args.clip c.args.level player) _ c.requires.0 lawful shown).0),
+      (shape-drawn {b = c.args.basis} (settings_of c.args.clip c.args.level 0) _ c.requires.0 lawful shown).1,
       omega arith,
     )
 
 pub returns-in-End : goal.returns-in-End
 unfolding shapes_page total drawing_of
-returns-in-End c =
+returns-in-End g c =
     let v = c.ranges.level in
     rw c.in-End.is ((λ player. record { page = refl; count = refl }), omega arith, omega arith)

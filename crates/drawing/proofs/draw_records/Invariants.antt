@@ -2,13 +2,12 @@
 use mathlib.Core.Path.{◌≡◌}
 use Prim.Native.Nat.{◌-◌}
 use lib.ListN.{length}
-use Rattle.lights.specs.inner.Palette.{lights_in}
 use Rattle.drawing.proofs.Records.{RemainingOf}
 use Rattle.drawing.proofs.draw_records.Given as goal
 
-abbrev pub invariant-loop-basis : goal.invariant-loop-basis
-invariant-loop-basis l =
-    RemainingOf (lights_in l.palette) l.basis l.list l.initial.page l.place l.settings l.page l.touched × (length l.page ≡ length l.initial.page)
+abbrev pub invariant-loop-palette : goal.invariant-loop-palette
+invariant-loop-palette g l =
+    RemainingOf (g.P.Palette.lights l.palette) l.basis l.list l.initial.page l.place l.settings l.page l.touched × (length l.page ≡ length l.initial.page)
 
-abbrev pub decreases-loop-basis : goal.decreases-loop-basis
-decreases-loop-basis l = length l.list - l.place
+abbrev pub decreases-loop-palette : goal.decreases-loop-palette
+decreases-loop-palette g l = length l.list - l.place

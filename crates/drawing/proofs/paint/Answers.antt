@@ -6,7 +6,7 @@ use Rattle.drawing.proofs.Shapes.{page-painted}
 use Rattle.drawing.proofs.paint.Goals as goal
 
 pub returns : goal.returns
-returns c =
+returns g c =
     let v = c.ranges.background in
     let e = c.draw_records.ensures in
     record { page = e.page ∙ ap (shapes_page _ _ _) c.fill.ensures ∙ page-painted _ _ _ _ _; counts = e.counts; lawful = e.lawful; byte = omega arith }

@@ -5,4 +5,4 @@ use Rattle.edges.proofs.strip_of.Goals as goal
 pub returns : goal.returns
 returns c =
     let a = c.args in
-    found-strip a.h a.p c.lesser-inside.ensures c.scaled.ensures.is
+    found-strip a.h a.p c.min-inside.ensures

@@ -1,5 +1,5 @@
 -- A level edge is brought into the row; of another the strips of its two sides are taken.
-use native.Mathlib.Omega.{arith}
+use Rattle.std.proofs.Common.{arith}
 use Rattle.edges.proofs.Found.{found-level, found_slanted}
 use Rattle.edges.proofs.under_at.Goals as goal
 
@@ -7,15 +7,14 @@ pub returns-then-from-to : goal.returns-then-from-to
 returns-then-from-to c =
     let a = c.args in
     found-level a.h a.from a.to a.z c.requires.0 c.requires.4 (omega arith)
-    c.scaled-floor.ensures.is c.less-left.ensures c.lesser.ensures
+    c.saturating_sub-left.ensures c.min.ensures
 
 pub returns : goal.returns
 returns c =
     let a = c.args in
     found_slanted a.h a.from a.to a.z c.requires.0 c.requires.4 (λ e. omega arith)
-    c.scaled-floor.ensures.is
-    c.less-left.ensures
-    c.less-right.ensures
+    c.saturating_sub-left.ensures
+    c.saturating_sub-right.ensures
     c.strip_of.ensures
     c.strip_of-2.ensures
-    c.distance.ensures
+    c.abs_diff.ensures

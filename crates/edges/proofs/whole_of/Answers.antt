@@ -1,5 +1,5 @@
 -- By width and height.
-use native.Mathlib.Omega.{arith}
+use Rattle.std.proofs.Common.{arith}
 use Rattle.edges.proofs.Found.{whole_upright, whole_flat, whole_sloped}
 use Rattle.edges.proofs.whole_of.Goals as goal
 
@@ -10,5 +10,4 @@ pub returns-then-k-eq0 : goal.returns-then-k-eq0
 returns-then-k-eq0 c = whole_flat c.args.l c.args.k (omega arith) (omega arith) c.requires.0
 
 pub returns : goal.returns
-returns c =
-    whole_sloped c.args.l c.args.k (omega arith) (omega arith) c.requires.0 c.requires.1 c.scaled.ensures.is
+returns c = whole_sloped c.args.l c.args.k (omega arith) (omega arith) c.requires.0 c.requires.1

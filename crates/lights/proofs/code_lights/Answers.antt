@@ -6,4 +6,4 @@ use Rattle.lights.proofs.code_lights.Goals as goal
 pub returns : goal.returns
 returns c =
     let l = c.loop-k in
-    codes_only l.lights l.invariant.1 (λ i h. l.invariant.2 i (omega arith))
+    codes_only l.lights l.invariant.0 (λ i h. l.invariant.1 i (omega arith))

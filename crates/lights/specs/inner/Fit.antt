@@ -1,7 +1,8 @@
 -- What is known of lights that have been tried.
-use Rattle.std.specs.Prelude.{◌≡◌, ℕ, suc, ◌+◌, ◌-◌, ◌*◌, ◌%◌, ◌^◌, ◌<◌, ◌≤◌, true, List, length}
+use Rattle.std.specs.Prelude.{◌≡◌, ℕ, suc, ◌+◌, ◌-◌, ◌*◌, ◌%◌, ◌^◌, ◌<◌, ◌≤◌, List, length, Option, Some, is_some}
 use Rattle.lights.specs.Lights.{light_of, fit}
-use Rattle.lights.specs.declared.fit.Kind.{Kind}
+use Rattle.lights.specs.declared.fit.Steps.{Steps}
+use Rattle.lights.specs.declared.fit.Steps.TheVariants.{Even}
 
 abbrev pub Rising : (ℕ → ℕ) → Type 0
 Rising light = (k : ℕ) → k < 255 → light k < light (suc k)
@@ -19,7 +20,7 @@ EvenSteps light = (k : ℕ) → k ≤ 255 → light k ≡ light 0 + (light 1 - l
 abbrev pub StepsOf : (ℕ → ℕ) → ℕ → Type 0
 StepsOf light step = (k : ℕ) → k ≤ 255 → light k ≡ (light 0 + step * k) % 2 ^ 16
 
--- which kind lights are of
-pub record IsKind (lights : List ℕ) (kind : Kind) : Type 0 where
-  pub fit_is : kind.fit ≡ fit lights
-  pub even_is : kind.even ≡ true → EvenSteps (light_of lights)
+-- lights are fit just where their steps are told, and what is told of them is so
+pub record Spaced (lights : List ℕ) (steps : Option Steps) : Type 0 where
+  pub fit_is : is_some steps ≡ fit lights
+  pub even_is : steps ≡ Some Even → EvenSteps (light_of lights)

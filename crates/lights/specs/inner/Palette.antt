@@ -1,8 +1,7 @@
--- A palette: 256 lights, and behind them, where they are not at even steps, a guess at the code for each of 1,024 stretches of light.
--- Its length tells which it is.
-use Rattle.std.specs.Prelude.{◌≡◌, ℕ, zero, suc, ◌+◌, ◌-◌, ◌*◌, ◌/◌, ◌^◌, ◌≤◌, cond, ◌⊎◌, List, length, take, ◌≢◌, nat_lt, slice_index}
+-- A palette, for lights that are not at even steps: 256 lights, and behind them a guess at the code for each of 1,024 stretches of light.
+use Rattle.std.specs.Prelude.{◌≡◌, ℕ, zero, suc, ◌+◌, ◌-◌, ◌*◌, ◌/◌, ◌^◌, ◌≤◌, cond, ◌⊎◌, List, length, take, nat_lt, slice_index}
 use Rattle.lights.specs.Lights.{light_of}
-use Rattle.lights.specs.inner.Fit.{Rising, EvenSteps}
+use Rattle.lights.specs.inner.Fit.{Rising}
 
 -- twice the middle of the lights of codes k − 1 and k; below code 0 it is 0, above code 255 more than twice any light
 unfoldable pub middle : (ℕ → ℕ) → ℕ → ℕ
@@ -39,8 +38,7 @@ pub record FilledFrom (a g : ℕ) (p q : List ℕ) : Type 0 where
   pub size : length q ≡ length p
   pub each : (b : ℕ) → (guess_of q b ≡ guess_of p b) ⊎ ((a ≤ b) × (guess_of q b ≡ g))
 
+-- p has rising lights in front, and a guess for each stretch
 pub record Palette (p : List ℕ) : Type 0 where
-  pub count : 256 ≤ length p
   pub rising : Rising (light_of p)
-  pub even : length p ≡ 256 → EvenSteps (light_of p)
-  pub uneven : (length p ≢ 256) → Guesses (light_of p) (reach_of p) p
+  pub guesses : Guesses (light_of p) (reach_of p) p

@@ -1,61 +1,51 @@
 -- Edge, whole part and inner edge never meet, and nothing of the row lies nearer or further.
-use Prim.Native.Nat.{ℕ, ◌+◌}
-use native.Mathlib.Omega.{arith}
+use Rattle.std.proofs.Common.{ℕ, ◌+◌, arith}
 use Rattle.numbers.specs.inner.Offset.{origin}
-use Rattle.lights.specs.inner.Palette.{lights_in}
-use Rattle.page.specs.inner.Ink.{ink_of}
 use Rattle.page.proofs.Drawn.{drawn_join, drawn-count}
 use Rattle.chords.specs.inner.Circle.{apart}
-use Rattle.rings.specs.inner.Heights.{at, Measured}
-use Rattle.mirrored.specs.inner.Mirrored.{row_sides, between_in, SidesDrawn}
+use Rattle.rings.specs.inner.Circles.{Measured}
+use Rattle.mirrored.specs.inner.Mirrored.{row_sides, cover_in, SidesDrawn}
 use Rattle.mirrored.proofs.Mirrored.{join_swap, sides_cut, sides_row, filled-drawn}
 use Rattle.mirrored.proofs.draw_sides.Goals as goal
 use Rattle.mirrored.proofs.draw_sides.Goals.{After-fill_sides}
 
 -- what is whole is drawn, and with the edge it is all but the inner edge
-solid : (c : After-fill_sides)
+solid : (g : _) (c : After-fill_sides g)
     → let a = c.args in
-    SidesDrawn (ink_of (lights_in a.palette.now) a.ring.level 512) a.view a.ring (at a.outer.now) (at a.inner.now)
-    a.y a.row.inner a.row.outer a.page.now c.fill_sides.new.page (c.outer_sides-edge.result + c.fill_sides.result)
-solid c =
+    SidesDrawn (g.I.Ink.blends a.ink) a.view a.circles
+    a.y a.row.inner a.row.outer a.page.now c.fill_sides.new.page (c.sides-edge.result + c.fill_sides.result)
+solid g c =
     let a = c.args in
-    let Y : ℕ → ℕ = at a.outer.now in
-    let Z : ℕ → ℕ = at a.inner.now in
-    let cover : ℕ → ℕ → ℕ = between_in Y Z a.ring in
+    let cover : ℕ → ℕ → ℕ = cover_in a.circles in
     let order = c.requires.b_value.2.order in
-    drawn_join (row_sides a.ring cover a.y a.row.inner a.row.outer)
-    (join_swap (sides_cut a.ring cover a.y a.row.inner a.row.outer a.row.whole order.1 order.2))
-    c.outer_sides-edge.ensures
-    (filled-drawn a.view a.ring Y Z a.ring.radius a.b a.y a.row
-    c.requires.ready.0.placed.inked c.requires.b_value.0 c.requires.b_value.2 c.fill_sides.ensures)
+    drawn_join (row_sides a.circles.ring cover a.y a.row.inner a.row.outer)
+    (join_swap (sides_cut a.circles.ring cover a.y a.row.inner a.row.outer a.row.whole order.1 order.2))
+    c.sides-edge.ensures
+    (filled-drawn a.view a.circles a.y c.requires.ready.1 c.requires.b_value.0 c.requires.b_value.2 c.fill_sides.ensures)
 
 pub overflow_add-solid : goal.overflow_add-solid
-overflow_add-solid c =
-    omega (arith, drawn-count c.requires.ready.0.placed.lawful (solid (goal.at.overflow_add-solid c).After-fill_sides))
+overflow_add-solid g c =
+    omega (arith, drawn-count c.requires.ready.0.lawful (solid g (goal.at.overflow_add-solid g c).After-fill_sides))
 
 pub returns-then-row-eq0 : goal.returns-then-row-eq0
-returns-then-row-eq0 c =
-    let Y : ℕ → ℕ = at c.args.outer.now in
-    let Z : ℕ → ℕ = at c.args.inner.now in
-    let measured : Measured Y Z c.args.ring.radius (apart c.args.ring.cy (c.args.y + origin)) c.args.row = rw c.requires.b_value.0 at c.requires.b_value.2 in
+returns-then-row-eq0 g c =
     let a = c.args in
-    sides_row a.ring Y Z a.y a.row.inner a.row.outer c.requires.ready.1
-    (λ k h. absurd (omega (arith, c.if-row-eq0.true))) measured.outer-none (solid (goal.at.returns-then-row-eq0 c).After-fill_sides)
+    let measured : Measured a.circles (apart a.circles.ring.cy (a.y + origin)) a.row = rw c.requires.b_value.0 at c.requires.b_value.2 in
+    sides_row a.circles a.y a.row.inner a.row.outer c.requires.ready.2
+    (λ k h. absurd (omega (arith, c.if-row-eq0.true))) measured.outer-none (solid g (goal.at.returns-then-row-eq0 g c).After-fill_sides)
 
 pub overflow_add-result : goal.overflow_add-result
-overflow_add-result c =
-    let law = c.requires.ready.0.placed.lawful in
-    omega (arith, drawn-count law (solid (goal.at.overflow_add-result c).After-fill_sides), drawn-count law c.inner_sides.ensures)
+overflow_add-result g c =
+    let law = c.requires.ready.0.lawful in
+    omega (arith, drawn-count law (solid g (goal.at.overflow_add-result g c).After-fill_sides), drawn-count law c.sides.ensures)
 
 pub returns : goal.returns
-returns c =
-    let Y : ℕ → ℕ = at c.args.outer.now in
-    let Z : ℕ → ℕ = at c.args.inner.now in
-    let cover : ℕ → ℕ → ℕ = between_in Y Z c.args.ring in
-    let measured : Measured Y Z c.args.ring.radius (apart c.args.ring.cy (c.args.y + origin)) c.args.row = rw c.requires.b_value.0 at c.requires.b_value.2 in
+returns g c =
     let a = c.args in
+    let cover : ℕ → ℕ → ℕ = cover_in a.circles in
+    let measured : Measured a.circles (apart a.circles.ring.cy (a.y + origin)) a.row = rw c.requires.b_value.0 at c.requires.b_value.2 in
     let order = c.requires.b_value.2.order in
-    sides_row a.ring Y Z a.y a.row.hole a.row.outer c.requires.ready.1 measured.hole_none measured.outer-none
-    (drawn_join (row_sides a.ring cover a.y a.row.hole a.row.outer)
-    (join_swap (sides_cut a.ring cover a.y a.row.hole a.row.outer a.row.inner order.0 (omega arith)))
-    (solid (goal.at.returns c).After-fill_sides) c.inner_sides.ensures)
+    sides_row a.circles a.y a.row.hole a.row.outer c.requires.ready.2 measured.hole_none measured.outer-none
+    (drawn_join (row_sides a.circles.ring cover a.y a.row.hole a.row.outer)
+    (join_swap (sides_cut a.circles.ring cover a.y a.row.hole a.row.outer a.row.inner order.0 (omega arith)))
+    (solid g (goal.at.returns g c).After-fill_sides) c.sides.ensures)

@@ -4,7 +4,9 @@ use Rattle.numbers.specs.inner.Offset.{origin}
 use Rattle.page.specs.inner.Paint.{dot, clipped, Drawn}
 use Rattle.page.specs.declared.View.{View}
 use Rattle.chords.specs.inner.Circle.{apart}
-use Rattle.rings.specs.inner.Heights.{between}
+use Rattle.rings.specs.inner.Circles.{cover}
+use Rattle.rings.specs.inner.Placed.{around}
+use Rattle.rings.specs.declared.Circles.{Circles}
 use Rattle.rings.specs.declared.Ring.{Ring}
 
 -- byte k blended by an ink at coverage n, and bytes j and k
@@ -31,17 +33,16 @@ abbrev pub row_sides : Ring → (ℕ → ℕ → ℕ) → ℕ → ℕ → ℕ �
 row_sides ring n y p q = sided ring (clipped p y q (y + 1) n)
 
 -- the coverage of row y at distance a from the centre's column
-abbrev pub between_in : (ℕ → ℕ) → (ℕ → ℕ) → Ring → ℕ → ℕ → ℕ
-between_in Y Z ring a y = between Y Z a (apart ring.cy (y + origin))
+abbrev pub cover_in : Circles → ℕ → ℕ → ℕ
+cover_in circles a y = cover circles a (apart circles.ring.cy (y + origin))
 
-abbrev pub SidesDrawn : (ℕ → ℕ → ℕ) → View → Ring → (ℕ → ℕ) → (ℕ → ℕ) → ℕ → ℕ → ℕ → List ℕ → List ℕ → ℕ → Type 0
-SidesDrawn ink view ring Y Z y p q l m t = Drawn view.w view.h ink (row_sides ring (between_in Y Z ring) y p q) l m t
+abbrev pub SidesDrawn : (ℕ → ℕ → ℕ) → View → Circles → ℕ → ℕ → ℕ → List ℕ → List ℕ → ℕ → Type 0
+SidesDrawn ink view circles y p q l m t = Drawn view.w view.h ink (row_sides circles.ring (cover_in circles) y p q) l m t
 
--- they hold the level: they are drawn by every ink that leaves it at a whole coverage d
-abbrev pub FilledSides : View → Ring → ℕ → ℕ → ℕ → List ℕ → List ℕ → ℕ → Type 0
-FilledSides view ring y p q l m t =
-    (ink n : ℕ → ℕ → ℕ) (d : ℕ) → 0 < d → ((u : ℕ) → ink d u ≡ ring.level) → ((a : ℕ) → p ≤ a → a < q → n a y ≡ d)
-    → Drawn view.w view.h ink (row_sides ring n y p q) l m t
+-- it is drawn if its coverage is d
+abbrev pub FilledSides : (ℕ → ℕ → ℕ) → ℕ → View → Ring → ℕ → ℕ → ℕ → List ℕ → List ℕ → ℕ → Type 0
+FilledSides ink d view ring y p q l m t =
+    (n : ℕ → ℕ → ℕ) → ((a : ℕ) → p ≤ a → a < q → n a y ≡ d) → Drawn view.w view.h ink (row_sides ring n y p q) l m t
 
 -- ---- the quarters of a ring
 
@@ -59,10 +60,6 @@ pub record Enclosed (view : View) (ring : Ring) : Type 0 where
   pub top : view.y0 + origin + ring.radius ≤ ring.cy
   pub bottom : ring.cy + ring.radius ≤ view.y1 + origin
 
--- a coverage by both distances
-abbrev pub quartered : Ring → (ℕ → ℕ → ℕ) → ℕ → ℕ → ℕ
-quartered ring n x y = n (apart ring.cx (x + origin)) (apart ring.cy (y + origin))
-
 -- what lies p to q away from the centre's column and b to c away from its row is drawn
-abbrev pub QuartersDrawn : (ℕ → ℕ → ℕ) → View → Ring → (ℕ → ℕ) → (ℕ → ℕ) → ℕ → ℕ → ℕ → ℕ → List ℕ → List ℕ → ℕ → Type 0
-QuartersDrawn ink view ring Y Z p b q c l m t = Drawn view.w view.h ink (quartered ring (clipped p b q c (between Y Z))) l m t
+abbrev pub QuartersDrawn : (ℕ → ℕ → ℕ) → View → Circles → ℕ → ℕ → ℕ → ℕ → List ℕ → List ℕ → ℕ → Type 0
+QuartersDrawn ink view circles p b q c l m t = Drawn view.w view.h ink (around circles.ring (clipped p b q c (cover circles))) l m t

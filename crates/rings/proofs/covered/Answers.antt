@@ -6,6 +6,6 @@ use Rattle.rings.proofs.covered.Goals as goal
 pub returns : goal.returns
 unfolding chords chord
 returns c = (
-  rw (c.chord_of.ensures.0, c.chord_of-2.ensures.0, c.height.ensures, c.height-2.ensures, c.greater-n.ensures, c.lesser-m.ensures),
+  rw (c.chord_of.ensures.0, c.chord_of-2.ensures.0, c.height.ensures, c.height-2.ensures, c.max-n.ensures, c.min-m.ensures),
   omega (arith, c.chord_of.ensures.1, c.chord_of-2.ensures.1),
 )

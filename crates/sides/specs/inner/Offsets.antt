@@ -1,10 +1,9 @@
 -- A triangle by its rows, and by the offsets of its corners.
 use Rattle.std.specs.Prelude.{◌≡◌, ℕ, ◌*◌, ◌≤◌, ℤ, pos}
-use Rattle.std.proofs.Math.IntN.{sub_ℕ}
 use Rattle.numbers.specs.inner.Order.{dist}
 use Rattle.numbers.specs.inner.Offset.{offset_most}
-use Rattle.edges.specs.inner.Strip.{whole_most}
 use Rattle.limits.specs.Limits.{triangle_most}
+use Rattle.shapes.specs.declared.Point.{Point}
 use Rattle.shapes.specs.declared.Corners.{Corners}
 use Rattle.sides.specs.Triangle.{Corner, share_n, side_n, side_d, cover_n, cover_d}
 
@@ -30,6 +29,9 @@ between_d a b a' b' = row_d a b * row_d a' b'
 abbrev pub at : ℕ → ℕ → Corner
 at x y = record { x = pos x; y = pos y }
 
+abbrev pub corner : Point → Corner
+corner p = at p.x p.y
+
 -- the coverage of the pixel of offsets x and y by the triangle with its corners at offsets, n over d
 abbrev pub offset_n : Corners → ℕ → ℕ → ℕ
 offset_n c x y = cover_n (at c.x0 c.y0) (at c.x1 c.y1) (at c.x2 c.y2) (pos x) (pos y)
@@ -52,15 +54,7 @@ pub record NearCorners (c : Corners) : Type 0 where
   pub second : Near c.x1 c.y1 c.x2 c.y2
   pub third : Near c.x2 c.y2 c.x0 c.y0
 
--- a side at pixel (x, y): add − take over d
-pub record SideIs (xa ya xb yb x y add take d : ℕ) : Type 0 where
-  pub value : side_n (at xa ya) (at xb yb) (pos x) (pos y) ≡ sub_ℕ add take
+-- a side at pixel (x, y), n over d
+pub record SideIs (xa ya xb yb x y : ℕ) (n : ℤ) (d : ℕ) : Type 0 where
+  pub value : n ≡ side_n (at xa ya) (at xb yb) (pos x) (pos y)
   pub whole : d ≡ side_d (at xa ya) (at xb yb)
-  pub add_le : add ≤ whole_most
-  pub take_le : take ≤ whole_most
-  pub whole_le : d ≤ whole_most
-
--- p is a product of what one side has or is over, and of what two others are over
-pub record Tripled (a b p : ℕ) : Type 0 where
-  pub is : p ≡ a * b
-  pub most : p ≤ 140737488355328

@@ -1,73 +1,60 @@
 -- Inside the clip all three rows are shown; the two lower ones always have something, and the upper one is tried.
-use mathlib.Core.Path.{refl}
-use native.Mathlib.Omega.{arith}
-use Rattle.lights.specs.inner.Palette.{lights_in}
-use Rattle.page.specs.inner.Ink.{ink_of}
+use Rattle.std.proofs.Common.{refl, arith}
 use Rattle.steps.proofs.Steps.{covers, reaches, advances, upper-byte, middle-byte, lower-byte, inner_stepped}
 use Rattle.steps.proofs.step_crossed.Goals as goal
 
 pub crossed_rows-rows-requires : goal.crossed_rows-rows-requires
-crossed_rows-rows-requires c =
+crossed_rows-rows-requires g c =
     let pre = c.requires in
     let fit = advances pre.0 in
     (fit.long, fit.short, fit.rest, pre.3, pre.0.ready.d-is)
 
-pub byte_above-above-requires : goal.byte_above-above-requires
-byte_above-above-requires c = let r = reaches c.requires.0 in (r.least, r.most)
+pub above-above-requires : goal.above-above-requires
+above-above-requires g c = let r = reaches c.requires.0 in (r.least, r.most)
 
-pub byte_below-below-requires : goal.byte_below-below-requires
-byte_below-below-requires c = let r = reaches c.requires.0 in (r.least, r.most)
+pub below-below-requires : goal.below-below-requires
+below-below-requires g c = let r = reaches c.requires.0 in (r.least, r.most)
 
 pub overflow_sub-above : goal.overflow_sub-above
-overflow_sub-above c =
+overflow_sub-above g c =
     let pre = c.requires in
-    rw c.byte_above-above.ensures.0 (upper-byte pre.0 pre.2).0
+    rw c.above-above.ensures.0 (upper-byte pre.0 pre.2).0
 
-pub spot_even-t-requires : goal.spot_even-t-requires
-spot_even-t-requires c =
-    let pre = c.requires in (
-      rw c.byte_above-above.ensures.0 (upper-byte pre.0 pre.2).1,
-      pre.0.ready.inked,
-      pre.1,
-      rw c.crossed_rows-rows.ensures (covers pre.0).upper,
-      pre.0.ready.m-is,
-    )
+pub spot-t-requires : goal.spot-t-requires
+spot-t-requires g c =
+    let pre = c.requires in
+    (rw c.above-above.ensures.0 (upper-byte pre.0 pre.2).1, rw (c.crossed_rows-rows.ensures, pre.1) (covers pre.0).upper)
 
 pub overflow_sub-at : goal.overflow_sub-at
-overflow_sub-at c =
+overflow_sub-at g c =
     let pre = c.requires in
     (middle-byte pre.0 pre.2).0
 
-pub put_even-requires : goal.put_even-requires
-put_even-requires c =
+pub put-requires : goal.put-requires
+put-requires g c =
     let pre = c.requires in
-    (rw c.spot_even-t.auto.page (middle-byte pre.0 pre.2).1, pre.0.ready.inked, pre.1, rw c.crossed_rows-rows.ensures (covers pre.0).middle, pre.0.ready.m-is)
+    (rw c.spot-t.auto.page (middle-byte pre.0 pre.2).1, rw (c.crossed_rows-rows.ensures, pre.1) (covers pre.0).middle)
 
 pub overflow_sub-below : goal.overflow_sub-below
-overflow_sub-below c =
+overflow_sub-below g c =
     let pre = c.requires in
-    rw c.byte_below-below.ensures (lower-byte pre.0 pre.2).0
+    rw c.below-below.ensures (lower-byte pre.0 pre.2).0
 
-pub put_even-requires-2 : goal.put_even-requires-2
-put_even-requires-2 c =
-    let pre = c.requires in (
-      rw (c.byte_below-below.ensures, c.put_even.auto.page, c.spot_even-t.auto.page) (lower-byte pre.0 pre.2).1,
-      pre.0.ready.inked,
-      pre.1,
-      rw c.crossed_rows-rows.ensures (covers pre.0).lower,
-      pre.0.ready.m-is,
-    )
+pub put-requires-2 : goal.put-requires-2
+put-requires-2 g c =
+    let pre = c.requires in
+    (rw (c.below-below.ensures, c.put.auto.page, c.spot-t.auto.page) (lower-byte pre.0 pre.2).1, rw (c.crossed_rows-rows.ensures, pre.1) (covers pre.0).lower)
 
-pub advanced-requires : goal.advanced-requires
-advanced-requires c =
-    (advances c.requires.0, omega (arith, c.spot_even-t.ensures.2))
+pub next-requires : goal.next-requires
+next-requires g c =
+    (advances c.requires.0, omega (arith, c.spot-t.ensures.2))
 
 pub returns : goal.returns
-returns c =
+returns g c =
     let rows = c.crossed_rows-rows in
     let a = c.args in
-    inner_stepped c.requires.0 c.requires.2 (ink_of (lights_in a.palette.now) a.s.level a.s.d) c.spot_even-t.result rows.result c.advanced.result
-    a.page.now c.spot_even-t.new.page c.put_even.new.page c.put_even-2.new.page rows.ensures refl c.advanced.ensures c.spot_even-t.ensures.1
-    (rw (← c.byte_above-above.ensures.0) c.spot_even-t.ensures.0)
-    c.put_even.ensures
-    (rw (← c.byte_below-below.ensures) c.put_even-2.ensures)
+    inner_stepped c.requires.0 c.requires.2 (g.I.Ink.blends a.ink) c.spot-t.result rows.result c.next.result
+    a.page.now c.spot-t.new.page c.put.new.page c.put-2.new.page rows.ensures refl c.next.ensures c.spot-t.ensures.1
+    (rw (← c.above-above.ensures.0) c.spot-t.ensures.0)
+    c.put.ensures
+    (rw (← c.below-below.ensures) c.put-2.ensures)

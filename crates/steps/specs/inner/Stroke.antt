@@ -7,8 +7,6 @@ use Rattle.bands.specs.inner.Rows.{whole_of}
 use Rattle.bands.specs.inner.Frame.{row_origin, Framed}
 use Rattle.coverage.specs.inner.OnPage.{shape_on}
 use Rattle.bands.specs.declared.Frame.{Frame}
-use Rattle.lights.specs.inner.Palette.{Palette}
-use Rattle.blending.specs.inner.Scale.{Scaled}
 use Rattle.page.specs.inner.Paint.{Lawful, Drawn}
 use Rattle.columns.specs.inner.Layout.{along_from, strip, EndInside, Laid, byte_at, raised}
 use Rattle.columns.specs.declared.layout.Layout.{Layout}
@@ -56,14 +54,12 @@ pub record Advanced (lay : Layout) (f : Frame) (t : ℕ) (at to : Step) : Type 0
 
 -- ---- a walk
 
--- a stroke that may be drawn by a palette on a page of size bytes
-pub record Prepared (palette : List ℕ) (s : Stroke) (size : ℕ) : Type 0 where
-  pub inked : Palette palette
+-- a stroke that may be drawn on a page of size bytes
+pub record Prepared (s : Stroke) (size : ℕ) : Type 0 where
   pub lawful : Lawful s.view size
   pub framed : Framed s.line s.frame
   pub laid : Laid s.view s.frame s.layout
   pub d-is : s.d ≡ whole_of s.line.exact s.frame.l s.frame.s
-  pub m-is : Scaled palette s.d s.m
 
 -- a walk stands at a column of the stroke, or after its last; three pixels a column bound its count
 pub record Standing (s : Stroke) (at : Step) : Type 0 where
@@ -73,8 +69,8 @@ pub record Standing (s : Stroke) (at : Step) : Type 0 where
   pub few : at.touched ≤ 3 * at.p
 
 -- a walk may draw the column at which it stands, on a page of size bytes
-pub record Steppable (palette : List ℕ) (s : Stroke) (at : Step) (size : ℕ) : Type 0 where
-  pub ready : Prepared palette s size
+pub record Steppable (s : Stroke) (at : Step) (size : ℕ) : Type 0 where
+  pub ready : Prepared s size
   pub standing : Standing s at
   pub within : EndInside s.view s.frame (at.p + 1)
 

@@ -1,56 +1,63 @@
--- Rows from `from` to before y are drawn, and the count is theirs.
-use Prim.Native.Nat.{◌*◌}
-use native.Mathlib.Omega.{arith}
+-- The rows before the next one are drawn, and the count is theirs.
+use Rattle.std.proofs.Common.{◌≡◌, ◌∙◌, refl, ◌+◌, ◌≤◌, ◌<◌, arith}
 use Rattle.page.proofs.Drawn.{drawn-count}
 use Rattle.triangles.specs.inner.Row.{between_on}
-use Rattle.triangles.proofs.Standing.{sides_both}
-use Rattle.triangles.proofs.Rows.{drawn-all, rows_none, rows_next}
+use Rattle.triangles.proofs.Rows.{rows_none, rows_next}
 use Rattle.triangles.proofs.draw_rows.Goals as goal
 
-pub scale_of-m-requires : goal.scale_of-m-requires
-scale_of-m-requires c =
-    let p = c.requires.palette in
-    let both = sides_both c.args.s c.args.t p.2 p.3 in
-    (p.0, rw c.product-d.ensures.is both.0, rw c.product-d.ensures.is both.1)
-
 pub loop-y-init : goal.loop-y-init
-loop-y-init c =
-    let p = c.requires in
+loop-y-init g c =
     let a = c.args in
-    record {
-      least = omega arith;
-      most = p.scaled.2.rows.order;
-      drawn = rows_none a.palette.now a.view a.level (a.s.d * a.t.d) (between_on a.s a.t) a.from a.from a.page.now (omega arith);
-    }
+    rw c.into_iter-y-iterator.ensures.into_iter_gives (
+      record {
+        least = omega arith;
+        most = c.requires.crossed.0.rows.order;
+        drawn = rows_none a.view (g.I.Ink.blends a.inks.now.both) (between_on a.s a.t) a.rows.start a.rows.start a.page.now (omega arith);
+      },
+      refl,
+    )
 
-pub cut_of-a-requires : goal.cut_of-a-requires
-cut_of-a-requires c =
-    let p = c.requires in
-    let r = p.scaled.2.rows in
+pub cut_at-requires : goal.cut_at-requires
+cut_at-requires g c =
+    let here = c.in-Some.ensures.steps in
     let i = c.loop-y.invariant in
-    (p.palette.2, r.below c.loop-y.y i.least (omega arith), r.above c.loop-y.y i.least (omega arith))
+    let r = c.requires.crossed.0.rows in
+    let least : c.args.rows.start ≤ c.in-Some.y = omega (arith, here, i.0.least) in
+    let less : c.in-Some.y < c.args.rows.end = omega (arith, here, i.1) in
+    (c.requires.fit.1, r.below c.in-Some.y least less, r.above c.in-Some.y least less)
 
-pub cut_of-b-requires : goal.cut_of-b-requires
-cut_of-b-requires c =
-    let p = c.requires in
-    let r = p.scaled.3.rows in
+pub cut_at-requires-in-loop-y : goal.cut_at-requires-in-loop-y
+cut_at-requires-in-loop-y g c =
+    let here = c.in-Some.ensures.steps in
     let i = c.loop-y.invariant in
-    (p.palette.3, r.below c.loop-y.y i.least (omega arith), r.above c.loop-y.y i.least (omega arith))
+    let r = c.requires.crossed.1.rows in
+    let least : c.args.rows.start ≤ c.in-Some.y = omega (arith, here, i.0.least) in
+    let less : c.in-Some.y < c.args.rows.end = omega (arith, here, i.1) in
+    (c.requires.fit.2, r.below c.in-Some.y least less, r.above c.in-Some.y least less)
 
 pub overflow_add-touched : goal.overflow_add-touched
-overflow_add-touched c =
-    let law = c.requires.palette.1 in
-    omega (arith, drawn-count law c.loop-y.invariant.drawn, drawn-count law c.draw_row-touched.ensures)
+overflow_add-touched g c =
+    let law = c.requires.fit.0 in
+    omega (arith, drawn-count law c.loop-y.invariant.0.drawn, drawn-count law c.draw_row-touched.ensures)
 
 pub loop-y-preserved : goal.loop-y-preserved
-loop-y-preserved c =
+loop-y-preserved g c =
     let a = c.args in
+    let here = c.in-Some.ensures.steps in
     let i = c.loop-y.invariant in
-    record {
-      least = omega (arith, i.least);
-      most = omega arith;
-      drawn = rows_next a.palette.now a.view a.level a.s a.t a.from c.loop-y.y i.least c.cut_of-a.ensures c.cut_of-b.ensures i.drawn c.draw_row-touched.ensures;
-    }
+    let next : c.next.new.self.start ≡ c.in-Some.y + 1 = omega (arith, here) in (
+      rw next (record {
+        least = omega (arith, here, i.0.least);
+        most = omega (arith, here, i.1);
+        drawn = rows_next a.view (g.I.Ink.blends a.inks.now.both) a.s a.t a.rows.start c.in-Some.y (omega (arith, here, i.0.least))
+            c.cut_at.ensures c.cut_at-in-loop-y.ensures (rw (← here.1.1) at i.0.drawn) c.draw_row-touched.ensures;
+      }),
+      here.0 ∙ i.1,
+    )
 
 pub returns : goal.returns
-returns c = drawn-all c.loop-y.invariant (omega arith)
+returns g c =
+    let none = c.in-None.ensures.steps in
+    let i = c.loop-y.invariant in
+    let all : c.loop-y.y-iterator.start ≡ c.args.rows.end = omega (arith, none, i.1, i.0.most) in
+    rw (← all) i.0.drawn

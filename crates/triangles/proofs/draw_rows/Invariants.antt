@@ -1,10 +1,9 @@
--- Rows from `from` to before y are drawn, and the count is theirs.
-use Prim.Native.Nat.{◌-◌}
+-- The rows before the next one are drawn, and the count is theirs.
+use Rattle.std.proofs.Common.{◌≡◌}
 use Rattle.triangles.proofs.Rows.{DrawnTo}
 use Rattle.triangles.proofs.draw_rows.Given as goal
 
 abbrev pub invariant-loop-y : goal.invariant-loop-y
-invariant-loop-y l = DrawnTo l.palette l.view l.level l.s l.t l.from l.end l.initial.page l.page l.touched l.y
-
-abbrev pub decreases-loop-y : goal.decreases-loop-y
-decreases-loop-y l = l.end - l.y
+invariant-loop-y g l =
+    DrawnTo l.view (g.I.Ink.blends l.inks.both) l.s l.t l.fn.rows.start l.fn.rows.end l.initial.page l.page l.touched l.y-iterator.start
+    × (l.y-iterator.end ≡ l.fn.rows.end)

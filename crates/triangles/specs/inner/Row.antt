@@ -1,11 +1,9 @@
 -- A row between two sides, on a page.
-use Rattle.std.specs.Prelude.{List, ℕ, ◌+◌, ◌-◌, ◌*◌, ◌≤◌, ◌<◌, pos}
-use Rattle.numbers.specs.inner.Offset.{origin}
+use Rattle.std.specs.Prelude.{◌≡◌, List, ℕ, ◌+◌, ◌-◌, ◌*◌, ◌≤◌, ◌<◌, pos}
+use Rattle.numbers.specs.inner.Equal.{Equal}
+use Rattle.numbers.specs.inner.Offset.{origin, offset_most}
 use Rattle.numbers.specs.inner.Order.{dist}
 use Rattle.sides.specs.inner.Offsets.{at, row_n, row_d}
-use Rattle.lights.specs.inner.Palette.{lights_in, Palette}
-use Rattle.blending.specs.inner.Scale.{Scaled}
-use Rattle.page.specs.inner.Ink.{ink_of}
 use Rattle.page.specs.inner.Paint.{clipped, Lawful, Drawn}
 use Rattle.page.specs.declared.View.{View}
 use Rattle.triangles.specs.inner.Side.{left_of, left_on, CutFit}
@@ -28,34 +26,41 @@ between_on s t x y = dist (left_on s x y * t.d) (left_on t x y * s.d)
 abbrev pub beside_on : ℕ → ℕ → ℕ → ℕ → Side → ℕ → ℕ → ℕ
 beside_on xa ya xb yb t x y = dist (row_n (at xa ya) (at xb yb) (pos x) (pos y) * t.d) (left_on t x y * row_d (at xa ya) (at xb yb))
 
--- columns from to end of row y are drawn on l, over d, by the coverage n of offsets, which gives m and touches t pixels
-abbrev pub RowDrawn : List ℕ → View → ℕ → ℕ → (ℕ → ℕ) → ℕ → ℕ → ℕ → List ℕ → List ℕ → ℕ → Type 0
-RowDrawn palette view level d n y from end l m t =
-    Drawn view.w view.h (ink_of (lights_in palette) level d) (clipped from y end (y + 1) (λ x _. n (x + origin))) l m t
+-- columns from to end of row y are drawn on l, in an ink, by the coverage n of offsets, which gives m and touches t pixels
+abbrev pub RowDrawn : View → (ℕ → ℕ → ℕ) → (ℕ → ℕ) → ℕ → ℕ → ℕ → List ℕ → List ℕ → ℕ → Type 0
+RowDrawn view ink n y from end l m t = Drawn view.w view.h ink (clipped from y end (y + 1) (λ x _. n (x + origin))) l m t
 
 -- so are rows from to end, in the clip's columns
-abbrev pub RowsDrawn : List ℕ → View → ℕ → ℕ → (ℕ → ℕ → ℕ) → ℕ → ℕ → List ℕ → List ℕ → ℕ → Type 0
-RowsDrawn palette view level d n from end l m t =
-    Drawn view.w view.h (ink_of (lights_in palette) level d) (clipped view.x0 from view.x1 end (λ x y. n (x + origin) (y + origin))) l m t
+abbrev pub RowsDrawn : View → (ℕ → ℕ → ℕ) → (ℕ → ℕ → ℕ) → ℕ → ℕ → List ℕ → List ℕ → ℕ → Type 0
+RowsDrawn view ink n from end l m t = Drawn view.w view.h ink (clipped view.x0 from view.x1 end (λ x y. n (x + origin) (y + origin))) l m t
 
 -- a page of size bytes, and columns from to end of one of its rows
-pub record Stretch (palette : List ℕ) (view : View) (size y from end : ℕ) : Type 0 where
-  pub palette_is : Palette palette
+pub record Stretch (view : View) (size y from end : ℕ) : Type 0 where
   pub lawful : Lawful view size
   pub row : y < view.h
   pub order : from ≤ end
   pub last : end ≤ view.w
 
--- a row of the clip and two cuts of it
-pub record Ready (palette : List ℕ) (view : View) (size level : ℕ) (a b : Cut) (y : ℕ) : Type 0 where
-  pub palette_is : Palette palette
+-- what may be asked for each offset, and answers no more than d
+abbrev pub Covering : (ℕ → Type 0) → (ℕ → ℕ → Type 0) → ℕ → Type 0
+Covering pre post d = (z : ℕ) → z ≤ offset_most → pre z × ((k : ℕ) → post z k → k ≤ d)
+
+-- what answers the coverage n of each offset
+abbrev pub Gives : (ℕ → ℕ → Type 0) → (ℕ → ℕ) → Type 0
+Gives post n = (z k : ℕ) → z ≤ offset_most → post z k → k ≡ n z
+
+-- inks of coverages over d and over d' that leave the same byte at the same share of a pixel
+pub record Alike (ink : ℕ → ℕ → ℕ) (d : ℕ) (ink' : ℕ → ℕ → ℕ) (d' : ℕ) : Type 0 where
+  pub same : (u k k' : ℕ) → Equal k d k' d' → ink k u ≡ ink' k' u
+
+-- a row of the clip and two cuts of it, whose shares are over d and over d'
+pub record Ready (view : View) (size : ℕ) (a b : Cut) (d d' y : ℕ) : Type 0 where
   pub lawful : Lawful view size
-  pub byte : level ≤ 255
   pub row : y < view.h
   pub first : CutFit a
   pub second : CutFit b
-  pub scaled : Scaled palette a.d a.m
-  pub scaled' : Scaled palette b.d b.m
+  pub over : d ≡ a.d
+  pub over' : d' ≡ b.d
 
 -- rows from to end lie from offset low to before offset high
 pub record Between (low high from end : ℕ) : Type 0 where

@@ -58,4 +58,3 @@ pub record CutOf (s : Side) (y : ℕ) (c : Cut) : Type 0 where
   pub fit : CutFit c
   pub left : (x : ℕ) → left_of c x ≡ left_on s x y
   pub over : c.d ≡ s.d
-  pub scale : c.m ≡ s.m

@@ -1,19 +1,13 @@
 -- The stretch is lent to `blend_edge`, and the rest of the page stays as it was.
-use mathlib.Core.Path.{◌≡◌, ◌∙◌}
-use Prim.Native.Nat.{◌+◌, ◌-◌, ◌*◌, ◌≤◌}
-use native.Mathlib.Omega.{arith}
-use lib.ListN.{length, take, drop}
+use Rattle.std.proofs.Common.{◌≡◌, ◌∙◌, ◌+◌, ◌-◌, ◌*◌, ◌≤◌, length, take, drop, arith}
 use borrow.Rule.Slice.PartMut.{mid_len}
-use Rattle.lights.specs.inner.Palette.{lights_in}
-use Rattle.page.specs.inner.Ink.{ink_of}
 use Rattle.page.proofs.Paint.{row-end}
 use Rattle.page.proofs.Drawn.{drawn_stretch}
-use Rattle.rings.specs.inner.Heights.{at}
-use Rattle.rings.specs.inner.Placed.{between_on}
+use Rattle.rings.specs.inner.Placed.{cover_on}
 use Rattle.circles.proofs.rows.draw_edge.Goals as goal
 
 pub returns : goal.returns
-returns c =
+returns g c =
     let a = c.args in
     let first = a.y * a.view.w + a.from in
     let last = a.y * a.view.w + a.end in
@@ -21,6 +15,5 @@ returns c =
     let lent : length (take (last - first) (drop first a.page.now)) ≡ a.end - a.from = mid_len first last a.page.now (omega (arith, inside)) ∙ omega arith in
     let b = c.apart_of-b.ensures in
     let e = c.blend_edge.ensures in
-    drawn_stretch a.view.w a.view.h (ink_of (lights_in a.palette.now) a.ring.level 512) a.from a.end a.y
-    (between_on (at a.outer.now) (at a.inner.now) a.ring) a.page.now _ _
+    drawn_stretch a.view.w a.view.h (g.I.Ink.blends a.ink) a.from a.end a.y (cover_on a.circles) a.page.now _ _
     (omega arith) (omega arith) (omega arith) (omega arith) (rw b at e.stretch_after) (rw (b, lent) at e.value)

@@ -1,41 +1,35 @@
 -- What is whole, then the edge: the two never meet, and together they are the columns.
-use mathlib.Core.Path.{◌≡◌, subst}
-use Prim.Native.Nat.{ℕ, ◌+◌}
-use native.Mathlib.Omega.{arith}
-use Rattle.lights.specs.inner.Palette.{lights_in}
-use Rattle.page.specs.inner.Ink.{ink_of}
+use Rattle.std.proofs.Common.{◌≡◌, ℕ, ◌+◌, subst, arith}
 use Rattle.page.proofs.Drawn.{drawn-count, drawn_beside, drawn_full}
-use Rattle.rings.specs.inner.Heights.{at}
-use Rattle.rings.specs.inner.Placed.{between_on, RingDrawn}
-use Rattle.rings.proofs.Placed.{whole_ink}
+use Rattle.rings.specs.inner.Placed.{cover_on, RingDrawn}
 use Rattle.circles.proofs.rows.draw_right.Goals as goal
 use Rattle.circles.proofs.rows.draw_right.Goals.{After-fill_row-whole}
 
 -- the columns that are whole
-filled : (c : After-fill_row-whole)
+filled : (g : _) (c : After-fill_row-whole g)
     → let a = c.args in
-    RingDrawn (ink_of (lights_in a.palette.now) a.ring.level 512) a.view a.ring (at a.outer.now) (at a.inner.now)
-    a.q a.y a.r (a.y + 1) a.page.now c.fill_row-whole.new.page c.fill_row-whole.result
-filled c =
+    RingDrawn (g.I.Ink.blends a.ink) a.view a.circles a.q a.y a.r (a.y + 1) a.page.now c.fill_row-whole.new.page c.fill_row-whole.result
+filled g c =
     let a = c.args in
-    drawn_full (between_on (at a.outer.now) (at a.inner.now) a.ring) 512 a.y a.q a.r c.requires.band.whole
-    (c.fill_row-whole.ensures (ink_of (lights_in a.palette.now) a.ring.level 512) 512 (omega arith) (whole_ink c.requires.ready.placed.inked))
+    drawn_full (cover_on a.circles) (g.I.Ink.whole a.ink) a.y a.q a.r (rw c.requires.ready.1 c.requires.band.whole)
+    (c.fill_row-whole.ensures (g.I.Ink.blends a.ink) (g.I.Ink.whole a.ink) (g.met.I.Ink.some a.ink).0
+    (rw c.level.ensures (g.met.I.Ink.covers a.ink)))
 
 pub returns-then-s-r : goal.returns-then-s-r
-returns-then-s-r c =
+returns-then-s-r g c =
     let a = c.args in
     let e : a.r ≡ a.s = omega arith in
-    subst (λ (s : ℕ). RingDrawn (ink_of (lights_in a.palette.now) a.ring.level 512) a.view a.ring (at a.outer.now) (at a.inner.now)
-    a.q a.y s (a.y + 1) a.page.now c.fill_row-whole.new.page c.fill_row-whole.result) e (filled (goal.at.returns-then-s-r c).After-fill_row-whole)
+    subst (λ (s : ℕ). RingDrawn (g.I.Ink.blends a.ink) a.view a.circles
+    a.q a.y s (a.y + 1) a.page.now c.fill_row-whole.new.page c.fill_row-whole.result) e (filled g (goal.at.returns-then-s-r g c).After-fill_row-whole)
 
 -- neither touches more pixels than a page has
 pub overflow_add-result : goal.overflow_add-result
-overflow_add-result c =
-    let law = c.requires.ready.placed.lawful in
-    omega (arith, drawn-count law (filled (goal.at.overflow_add-result c).After-fill_row-whole), drawn-count law c.draw_edge.ensures)
+overflow_add-result g c =
+    let law = c.requires.ready.0.lawful in
+    omega (arith, drawn-count law (filled g (goal.at.overflow_add-result g c).After-fill_row-whole), drawn-count law c.draw_edge.ensures)
 
 pub returns : goal.returns
-returns c =
+returns g c =
     let a = c.args in
-    drawn_beside (between_on (at a.outer.now) (at a.inner.now) a.ring) a.y a.q a.r a.s (omega arith) (omega arith)
-    (filled (goal.at.returns c).After-fill_row-whole) c.draw_edge.ensures
+    drawn_beside (cover_on a.circles) a.y a.q a.r a.s (omega arith) (omega arith)
+    (filled g (goal.at.returns g c).After-fill_row-whole) c.draw_edge.ensures

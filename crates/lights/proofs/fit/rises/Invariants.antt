@@ -1,10 +1,7 @@
 -- The turn at i has counted those of lights 1 to i that do not rise.
-use Rattle.std.proofs.Common.{◌≡◌, ◌-◌, ◌≤◌, eqb}
+use Rattle.std.proofs.Common.{◌≡◌, ◌≤◌, eqb}
 use Rattle.lights.specs.Lights.{light_of, rises_to}
 use Rattle.lights.proofs.fit.rises.Given as goal
 
 abbrev pub invariant-loop-i : goal.invariant-loop-i
-invariant-loop-i l = (l.i ≤ 255) × (l.fallen ≤ l.i) × (rises_to (light_of l.lights) l.i ≡ eqb l.fallen 0)
-
-abbrev pub decreases-loop-i : goal.decreases-loop-i
-decreases-loop-i l = 255 - l.i
+invariant-loop-i l = (l.fallen ≤ l.i) × (rises_to (light_of l.lights) l.i ≡ eqb l.fallen 0)

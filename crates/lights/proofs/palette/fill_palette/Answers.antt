@@ -13,14 +13,13 @@ pub loop-i-preserved : goal.loop-i-preserved
 loop-i-preserved c =
     let l = c.loop-i in
     let lights = c.args.lights.now in (
-      omega arith,
-      lights-set l.palette (light_of lights) l.i (omega (arith, l.invariant.2.size)) l.invariant.1,
-      guesses_set (light_of lights) (reach_of lights) l.palette l.i (light_of lights l.i) (omega arith) l.invariant.2,
+      lights-set l.palette (light_of lights) l.i (omega (arith, l.invariant.1.size)) l.invariant.0,
+      guesses_set (light_of lights) (reach_of lights) l.palette l.i (light_of lights l.i) (omega arith) l.invariant.1,
     )
 
 pub returns : goal.returns
 returns c =
     let l = c.loop-i in
     let lights = c.args.lights.now in
-    let same : (k : ℕ) → k < 256 → light_of l.palette k ≡ light_of lights k = λ k h. l.invariant.1 k (omega arith) in
-    (palette_is lights l.palette c.requires.0 l.invariant.2 same, palette_lights lights l.palette c.requires.0 l.invariant.2 same, l.invariant.2.size)
+    let same : (k : ℕ) → k < 256 → light_of l.palette k ≡ light_of lights k = λ k h. l.invariant.0 k (omega arith) in
+    (palette_is lights l.palette c.requires.0 l.invariant.1 same, palette_lights lights l.palette c.requires.0 l.invariant.1 same)

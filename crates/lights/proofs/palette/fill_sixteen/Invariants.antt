@@ -1,10 +1,6 @@
 -- Each store puts g at a stretch from a on.
-use Rattle.std.proofs.Common.{◌-◌, ◌≤◌}
 use Rattle.lights.specs.inner.Palette.{FilledFrom}
 use Rattle.lights.proofs.palette.fill_sixteen.Given as goal
 
 abbrev pub invariant-loop-i : goal.invariant-loop-i
-invariant-loop-i l = (l.i ≤ 16) × FilledFrom l.a l.g l.initial.palette l.palette
-
-abbrev pub decreases-loop-i : goal.decreases-loop-i
-decreases-loop-i l = 16 - l.i
+invariant-loop-i l = FilledFrom l.a l.g l.initial.palette l.palette

@@ -7,9 +7,9 @@ use Rattle.lists.specs.List.{checked_as, records_from}
 use Rattle.lists.proofs.Walk.{Reached}
 use Rattle.lists.proofs.check.check_records.Given as goal
 
-abbrev pub invariant-loop-header : goal.invariant-loop-header
-invariant-loop-header l =
+abbrev pub invariant-loop-counted : goal.invariant-loop-counted
+invariant-loop-counted l =
     Reached l.header l.basis l.list (checked_as l.header (records_from (suc (length l.list)) (basis_of l.header) (drop header_size l.list) header_size)) l.place l.pixels l.ceiling
 
-abbrev pub decreases-loop-header : goal.decreases-loop-header
-decreases-loop-header l = length l.list - l.place
+abbrev pub decreases-loop-counted : goal.decreases-loop-counted
+decreases-loop-counted l = length l.list - l.place

@@ -1,11 +1,10 @@
 -- Where the cuts are apart each leaves pixels in part by itself; else both do.
-use lib.ListN.{length}
+use Rattle.std.proofs.Common.{rules}
+use Rattle.triangles.specs.inner.Row.{between_of}
 use Rattle.triangles.proofs.Apart.{overlap_drawn}
 use Rattle.triangles.proofs.row.draw_row.Goals as goal
 
 pub returns : goal.returns
-returns c =
-    let a = c.args in
-    overlap_drawn a.palette.now a.view (length a.page.now) a.level a.a a.b a.y c.requires.0
-    c.lesser.ensures c.greater.ensures c.clamp_offset-from.ensures c.clamp_offset-end.ensures
-    c.blend_between.ensures
+returns g c =
+    overlap_drawn c.requires c.min.ensures c.max.ensures c.clamp_offset-from.ensures c.clamp_offset-end.ensures
+    (c.blend_columns.ensures.drawn (between_of c.args.a c.args.b) (λ z k h p. search rules))
