@@ -3,9 +3,8 @@ use Rattle.std.specs.Prelude.{List, ℕ, Result, Ok, Err}
 use Rattle.limits.specs.Limits.{basis_by}
 use Rattle.format.specs.Format.{basis_of}
 use Rattle.lists.specs.declared.check.Accepted.{Accepted}
-use Rattle.drawing.specs.declared.Answer.{Answer}
-use Rattle.drawing.specs.declared.Answer.TheVariants.{Drawn, Refused}
-use Rattle.drawing.specs.declared.Outcome.{Outcome}
+use Rattle.drawing.specs.declared.Size.{Size}
+use Rattle.drawing.specs.Outcome.{Outcome}
 use Rattle.arguments.specs.Taken.{basis_given}
 use Rattle.answers.specs.declared.list.CheckAnswer.{CheckAnswer}
 use Rattle.answers.specs.declared.list.ListAnswer.{ListAnswer}
@@ -22,9 +21,9 @@ check_answer (Err (refusal, place)) =
 -- ---- drawing
 
 -- an answer with the counts that stand beside it, which are zeros after a refusal
-abbrev pub answered_with : List ℕ → Answer → ListAnswer
-answered_with touched (Drawn w h) = record { refusal = 0; place = 0; w = w; h = h; touched = touched }
-answered_with touched (Refused refusal place) = record { refusal = refusal; place = place; w = 0; h = 0; touched = touched }
+abbrev pub answered_with : List ℕ → Result Size (ℕ × ℕ) → ListAnswer
+answered_with touched (Ok size) = record { refusal = 0; place = 0; w = size.w; h = size.h; touched = touched }
+answered_with touched (Err (refusal, place)) = record { refusal = refusal; place = place; w = 0; h = 0; touched = touched }
 
 unfoldable pub list_answered : Outcome → ListAnswer
 list_answered o = answered_with o.touched o.answer

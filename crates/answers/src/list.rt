@@ -1,10 +1,12 @@
 // A whole list: checked, drawn or squeezed.
 ghost use Rattle.std.specs.Prelude.{◌≡◌};
 ghost use Rattle.lists.specs.Refused.{numbered_at};
+ghost use Rattle.drawing.specs.Outcome.{numbered_outcome};
 ghost use Rattle.answers.specs.List.{check_answer, squeeze_answered, list_answered};
 
 use crate::number_of;
 use arguments::GivenBasis;
+use drawing::{Outcome, Size};
 use lists::RefusedAt;
 use lists::check::Accepted;
 use shapes::{Basis, PLAYERS};
@@ -58,23 +60,22 @@ pub struct ListAnswer {
     pub touched: [u64; PLAYERS],
 }
 
-impl From<drawing::Outcome> for ListAnswer {
-    ghost from_gives = { λ outcome answer. answer ≡ list_answered outcome };
+impl From<Outcome> for ListAnswer {
+    ghost from_gives = { λ outcome answer. answer ≡ list_answered (numbered_outcome outcome) };
 
     #[tactic(auto, unfolding(crate::specs::List::list_answered))]
-    fn from(outcome: drawing::Outcome) -> ListAnswer {
-        let answer = outcome.answer;
-        let touched = outcome.touched;
+    fn from(outcome: Outcome) -> ListAnswer {
+        let Outcome { answer, touched } = outcome;
         match answer {
-            drawing::Answer::Drawn { w, h } => ListAnswer {
+            Ok(Size { w, h }) => ListAnswer {
                 refusal: 0,
                 place: 0,
                 w: w.into(),
                 h: h.into(),
                 touched,
             },
-            drawing::Answer::Refused { refusal, place } => ListAnswer {
-                refusal: refusal.into(),
+            Err(RefusedAt { refusal, place }) => ListAnswer {
+                refusal: number_of(refusal),
                 place,
                 w: 0,
                 h: 0,

@@ -9,7 +9,7 @@ use Rattle.settings.specs.Drawing.{Drawing, drawings}
 use Rattle.lists.specs.List.{Records, accepted, refused, checked_as, pageless_records, checked_without_page}
 use Rattle.lists.specs.inner.Walk.{list_drawings}
 use Rattle.format.specs.declared.Header.{Header}
-use Rattle.std.proofs.Common.{Result, Ok, Err}
+use Rattle.std.proofs.Common.{Result, Err}
 use Rattle.lists.proofs.Accepted.{AcceptedAs}
 use Rattle.lists.proofs.Walkable.{drawings_are}
 use Rattle.squeezed.specs.Squeeze.{squeezed, fitted, filled, squeeze_answer, squeeze_output}

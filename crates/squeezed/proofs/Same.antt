@@ -14,7 +14,7 @@ use Rattle.drawing.specs.Touches.{touches_at}
 use Rattle.drawing.specs.Page.{drawn_page}
 use Rattle.drawing.specs.Counts.{shapes_count, player_counts, Counted}
 use Rattle.drawing.specs.Claim.{answer_by, drawings_by, page_by, ByteBounded, Bounded, ClaimBy, outcome_by}
-use Rattle.drawing.specs.declared.Outcome.{Outcome}
+use Rattle.drawing.specs.Outcome.{Outcome}
 
 -- two lists with the header d are both accepted, with the same drawings, or neither is, with one refusal at one place
 pub data Same (d : Header) : Records → Records → Type 0 where

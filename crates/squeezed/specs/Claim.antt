@@ -6,7 +6,7 @@ use Rattle.settings.specs.Drawing.{Drawing}
 use Rattle.lists.specs.List.{records_of, checked_as, pageless_records}
 use Rattle.settings.specs.declared.Settings.{Settings}
 use Rattle.drawing.specs.Claim.{drawings_by, Claim, list_outcome, list_page}
-use Rattle.drawing.specs.declared.Outcome.{Outcome}
+use Rattle.drawing.specs.Outcome.{Outcome}
 use Rattle.squeezed.specs.Squeeze.{squeezed}
 
 -- the bytes that a list s is squeezed to

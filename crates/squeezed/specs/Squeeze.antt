@@ -15,7 +15,7 @@ use Rattle.settings.specs.declared.Settings.{Settings}
 -- ---- its records
 
 unfoldable pub same_clip : Clip → Clip → Bool
-same_clip a b = eqb a.x0 b.x0 && eqb a.y0 b.y0 && eqb a.x1 b.x1 && eqb a.y1 b.y1
+same_clip a b = eqb a.x0 b.x0 && (eqb a.y0 b.y0 && (eqb a.x1 b.x1 && eqb a.y1 b.y1))
 
 -- a setting is a record, or nothing where its value is the same
 unfoldable pub change : Bool → Setting → List Record
