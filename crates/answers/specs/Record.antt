@@ -1,14 +1,11 @@
 -- The answers about one record in the form that C takes (R7.6, R7.7, R8.3).
-use Rattle.std.specs.Prelude.{cond, List, [], ◌∷◌, ltb, ℤ, pos, length, replicate}
+use Rattle.std.specs.Prelude.{List, [], ◌∷◌, ℕ, ℤ, pos, length, replicate, Result, Ok, Err}
 use Rattle.shapes.specs.declared.Shape.TheVariants.{Line as line, Disc as disc, Ring as ring, Triangle as triangle}
 use Rattle.shapes.specs.declared.Setting.TheVariants.{Clip as clip, Level as level, Player as player}
 use Rattle.shapes.specs.declared.Record.{Record}
 use Rattle.shapes.specs.declared.Record.TheVariants.{End as end, Setting as setting, Shape as shape}
 use Rattle.format.specs.Format.{kind_of, record_bytes}
-use Rattle.records.specs.Write.{held_by}
-use Rattle.records.specs.declared.read.Reading.{Reading}
-use Rattle.records.specs.declared.read.Reading.TheVariants.{Found, Refused}
-use Rattle.records.specs.declared.write.Written.{Written}
+use Rattle.records.specs.declared.write.Cursor.{Cursor}
 use Rattle.arguments.specs.Taken.{basis_given}
 use Rattle.arguments.specs.declared.GivenBasis.{GivenBasis}
 use Rattle.answers.specs.Shape.{call_place}
@@ -32,14 +29,14 @@ numbers_of (shape (triangle t)) = t.x0 ∷ t.y0 ∷ t.x1 ∷ t.y1 ∷ t.x2 ∷ t
 abbrev pub record_answer : Record → ReadAnswer
 record_answer r = record { refusal = 0; place = call_place; size = length (record_bytes r); kind = kind_of r; numbers = numbers_of r }
 
-abbrev pub read_answer : Reading → ReadAnswer
-read_answer (Found r) = record_answer r
-read_answer (Refused refusal) =
+abbrev pub read_answer : Result Record ℕ → ReadAnswer
+read_answer (Ok r) = record_answer r
+read_answer (Err refusal) =
     record { refusal = refusal; place = call_place; size = 0; kind = 0; numbers = replicate 6 (pos 0) }
 
 -- ---- writing
 
 -- next is where the next record goes. After a refusal it and the basis are those that were given
-unfoldable pub write_answer : GivenBasis → Written → WriteAnswer
-write_answer b a =
-    record { refusal = a.refusal; place = call_place; next = a.place; basis = cond (ltb 0 a.refusal) b (basis_given (held_by a)) }
+abbrev pub write_answer : GivenBasis → ℕ → Result Cursor ℕ → WriteAnswer
+write_answer b place (Ok at) = record { refusal = 0; place = call_place; next = at.place; basis = basis_given at.basis }
+write_answer b place (Err refusal) = record { refusal = refusal; place = call_place; next = place; basis = b }

@@ -1,10 +1,15 @@
 // A whole list: checked, drawn or squeezed.
 ghost use Rattle.std.specs.Prelude.{◌≡◌};
+ghost use Rattle.lists.specs.Refused.{numbered_at};
+ghost use Rattle.drawing.specs.Outcome.{numbered_outcome};
 ghost use Rattle.answers.specs.List.{check_answer, squeeze_answered, list_answered};
 
+use crate::number_of;
 use arguments::GivenBasis;
-use lists::check::Checked;
-use shapes::PLAYERS;
+use drawing::{Outcome, Size};
+use lists::RefusedAt;
+use lists::check::Accepted;
+use shapes::{Basis, PLAYERS};
 
 // The header of a list and the ceiling of its touches where refusal is 0; else the place of the refusal, and zeros.
 #[repr(C)]
@@ -17,20 +22,20 @@ pub struct CheckAnswer {
     pub ceiling: u64,
 }
 
-impl From<Checked> for CheckAnswer {
-    ghost from_gives = { λ checked answer. answer ≡ check_answer checked };
+impl From<Result<Accepted, RefusedAt>> for CheckAnswer {
+    ghost from_gives = { λ checked answer. answer ≡ check_answer (numbered_at checked) };
 
-    fn from(checked: Checked) -> CheckAnswer {
+    fn from(checked: Result<Accepted, RefusedAt>) -> CheckAnswer {
         match checked {
-            Checked::Accepted { header, ceiling } => CheckAnswer {
+            Ok(Accepted { header, ceiling }) => CheckAnswer {
                 refusal: 0,
                 place: 0,
-                basis: format::basis_of(header).into(),
+                basis: Basis::from(header).into(),
                 background: header.background,
                 ceiling,
             },
-            Checked::Refused { refusal, place } => CheckAnswer {
-                refusal: refusal.into(),
+            Err(RefusedAt { refusal, place }) => CheckAnswer {
+                refusal: number_of(refusal),
                 place,
                 basis: GivenBasis {
                     version: 0,
@@ -55,23 +60,22 @@ pub struct ListAnswer {
     pub touched: [u64; PLAYERS],
 }
 
-impl From<drawing::Outcome> for ListAnswer {
-    ghost from_gives = { λ outcome answer. answer ≡ list_answered outcome };
+impl From<Outcome> for ListAnswer {
+    ghost from_gives = { λ outcome answer. answer ≡ list_answered (numbered_outcome outcome) };
 
     #[tactic(auto, unfolding(crate::specs::List::list_answered))]
-    fn from(outcome: drawing::Outcome) -> ListAnswer {
-        let answer = outcome.answer;
-        let touched = outcome.touched;
+    fn from(outcome: Outcome) -> ListAnswer {
+        let Outcome { answer, touched } = outcome;
         match answer {
-            drawing::Answer::Drawn { w, h } => ListAnswer {
+            Ok(Size { w, h }) => ListAnswer {
                 refusal: 0,
                 place: 0,
                 w: w.into(),
                 h: h.into(),
                 touched,
             },
-            drawing::Answer::Refused { refusal, place } => ListAnswer {
-                refusal: refusal.into(),
+            Err(RefusedAt { refusal, place }) => ListAnswer {
+                refusal: number_of(refusal),
                 place,
                 w: 0,
                 h: 0,
@@ -90,18 +94,18 @@ pub struct SqueezeAnswer {
     pub length: usize,
 }
 
-impl From<squeezed::Answer> for SqueezeAnswer {
-    ghost from_gives = { λ answer given. given ≡ squeeze_answered answer };
+impl From<Result<usize, RefusedAt>> for SqueezeAnswer {
+    ghost from_gives = { λ squeezed answer. answer ≡ squeeze_answered (numbered_at squeezed) };
 
-    fn from(answer: squeezed::Answer) -> SqueezeAnswer {
-        match answer {
-            squeezed::Answer::Squeezed(length) => SqueezeAnswer {
+    fn from(squeezed: Result<usize, RefusedAt>) -> SqueezeAnswer {
+        match squeezed {
+            Ok(length) => SqueezeAnswer {
                 refusal: 0,
                 place: 0,
                 length,
             },
-            squeezed::Answer::Refused { refusal, place } => SqueezeAnswer {
-                refusal: refusal.into(),
+            Err(RefusedAt { refusal, place }) => SqueezeAnswer {
+                refusal: number_of(refusal),
                 place,
                 length: 0,
             },

@@ -1,11 +1,14 @@
 // One record that was read, and where the writer stands.
 ghost use Rattle.std.specs.Prelude.{◌≡◌};
+ghost use Rattle.limits.specs.Refusal.{numbered};
 ghost use Rattle.answers.specs.Record.{numbers_of, record_answer, read_answer, write_answer};
 
+use crate::number_of;
 use arguments::GivenBasis;
-use records::read::Reading;
-use records::write::Written;
-use shapes::{Basis, Record, Setting, Shape};
+use format::Kind;
+use limits::Refusal;
+use records::write::Cursor;
+use shapes::{Record, Setting, Shape};
 
 // A record where refusal is 0: how many bytes it has, its kind byte and its numbers in their order. What a kind has not is 0.
 #[repr(C)]
@@ -75,24 +78,25 @@ impl From<Record> for ReadAnswer {
     ghost from_gives = { λ rec answer. answer ≡ record_answer rec };
 
     fn from(rec: Record) -> ReadAnswer {
+        let kind = Kind::from(rec);
         ReadAnswer {
             refusal: 0,
             place: 0,
-            size: format::record_size(rec),
-            kind: format::record_kind(rec).into(),
+            size: kind.size(),
+            kind: u8::from(kind).into(),
             numbers: record_numbers(rec),
         }
     }
 }
 
-impl From<Reading> for ReadAnswer {
-    ghost from_gives = { λ reading answer. answer ≡ read_answer reading };
+impl From<Result<Record, Refusal>> for ReadAnswer {
+    ghost from_gives = { λ reading answer. answer ≡ read_answer (numbered reading) };
 
-    fn from(reading: Reading) -> ReadAnswer {
+    fn from(reading: Result<Record, Refusal>) -> ReadAnswer {
         match reading {
-            Reading::Found(rec) => rec.into(),
-            Reading::Refused(refusal) => ReadAnswer {
-                refusal: refusal.into(),
+            Ok(rec) => rec.into(),
+            Err(refusal) => ReadAnswer {
+                refusal: number_of(refusal),
                 place: 0,
                 size: 0,
                 kind: 0,
@@ -112,27 +116,26 @@ pub struct WriteAnswer {
     pub basis: GivenBasis,
 }
 
-// The writer's answer in the form that C takes; the basis is the one that was given.
-#[tactic(auto, unfolding(crate::specs::Record::write_answer))]
-pub fn write_answer(basis: GivenBasis, written: Written) -> WriteAnswer
-    ensures { result ≡ write_answer basis written }
+// The writer's answer in the form that C takes; the basis and the place are those that were given.
+pub fn write_answer(
+    basis: GivenBasis,
+    place: usize,
+    written: Result<Cursor, Refusal>,
+) -> WriteAnswer
+    ensures { result ≡ write_answer basis place (numbered written) }
 {
-    if 0 < written.refusal {
-        return WriteAnswer {
-            refusal: written.refusal.into(),
+    match written {
+        Ok(at) => WriteAnswer {
+            refusal: 0,
             place: 0,
-            next: written.place,
+            next: at.place,
+            basis: at.basis.into(),
+        },
+        Err(refusal) => WriteAnswer {
+            refusal: number_of(refusal),
+            place: 0,
+            next: place,
             basis,
-        };
-    }
-    WriteAnswer {
-        refusal: written.refusal.into(),
-        place: 0,
-        next: written.place,
-        basis: GivenBasis::from(Basis {
-            version: written.version,
-            w: written.w,
-            h: written.h,
-        }),
+        },
     }
 }

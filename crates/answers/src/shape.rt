@@ -1,6 +1,11 @@
 // What is told of one shape: its coverage of a pixel, the pixels that it touched, the last column of a line.
 ghost use Rattle.std.specs.Prelude.{◌≡◌};
+ghost use Rattle.limits.specs.Refusal.{numbered};
 ghost use Rattle.answers.specs.Shape.{answered, drawn, reached};
+
+use crate::number_of;
+use coverage::Ratio;
+use limits::Refusal;
 
 // n over d where refusal is 0; else n and d are 0.
 #[repr(C)]
@@ -12,19 +17,19 @@ pub struct CoverageAnswer {
     pub d: u64,
 }
 
-impl From<coverage::Answer> for CoverageAnswer {
-    ghost from_gives = { λ answer given. given ≡ answered answer };
+impl From<Result<Ratio, Refusal>> for CoverageAnswer {
+    ghost from_gives = { λ covered answer. answer ≡ answered (numbered covered) };
 
-    fn from(answer: coverage::Answer) -> CoverageAnswer {
-        match answer {
-            coverage::Answer::Covered(ratio) => CoverageAnswer {
+    fn from(covered: Result<Ratio, Refusal>) -> CoverageAnswer {
+        match covered {
+            Ok(ratio) => CoverageAnswer {
                 refusal: 0,
                 place: 0,
                 n: ratio.n,
                 d: ratio.d,
             },
-            coverage::Answer::Refused(refusal) => CoverageAnswer {
-                refusal: refusal.into(),
+            Err(refusal) => CoverageAnswer {
+                refusal: number_of(refusal),
                 place: 0,
                 n: 0,
                 d: 0,
@@ -42,18 +47,18 @@ pub struct DrawAnswer {
     pub touched: u64,
 }
 
-impl From<draw::Outcome> for DrawAnswer {
-    ghost from_gives = { λ outcome given. given ≡ drawn outcome };
+impl From<Result<u64, Refusal>> for DrawAnswer {
+    ghost from_gives = { λ touched answer. answer ≡ drawn (numbered touched) };
 
-    fn from(outcome: draw::Outcome) -> DrawAnswer {
-        match outcome {
-            draw::Outcome::Touched(touched) => DrawAnswer {
+    fn from(touched: Result<u64, Refusal>) -> DrawAnswer {
+        match touched {
+            Ok(touched) => DrawAnswer {
                 refusal: 0,
                 place: 0,
                 touched,
             },
-            draw::Outcome::Refused(refusal) => DrawAnswer {
-                refusal: refusal.into(),
+            Err(refusal) => DrawAnswer {
+                refusal: number_of(refusal),
                 place: 0,
                 touched: 0,
             },
@@ -71,25 +76,25 @@ pub struct ColumnAnswer {
     pub column: u64,
 }
 
-impl From<last_column::Reach> for ColumnAnswer {
-    ghost from_gives = { λ reach given. given ≡ reached reach };
+impl From<Result<Option<u64>, Refusal>> for ColumnAnswer {
+    ghost from_gives = { λ last answer. answer ≡ reached (numbered last) };
 
-    fn from(reach: last_column::Reach) -> ColumnAnswer {
-        match reach {
-            last_column::Reach::Last(column) => ColumnAnswer {
+    fn from(last: Result<Option<u64>, Refusal>) -> ColumnAnswer {
+        match last {
+            Ok(Some(column)) => ColumnAnswer {
                 refusal: 0,
                 place: 0,
                 found: 1,
                 column,
             },
-            last_column::Reach::Nothing => ColumnAnswer {
+            Ok(None) => ColumnAnswer {
                 refusal: 0,
                 place: 0,
                 found: 0,
                 column: 0,
             },
-            last_column::Reach::Refused(refusal) => ColumnAnswer {
-                refusal: refusal.into(),
+            Err(refusal) => ColumnAnswer {
+                refusal: number_of(refusal),
                 place: 0,
                 found: 0,
                 column: 0,

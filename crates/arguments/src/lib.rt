@@ -1,9 +1,11 @@
 // The numbers of C, 32 bits wide, as the library takes them. What its 16 bits do not hold becomes a number that it refuses, so that nothing is narrowed in silence.
 #![tactic(auto)]
 
-ghost use Rattle.std.specs.Prelude.{◌≡◌};
+ghost use Rattle.std.specs.Prelude.{◌≡◌, ◌<◌, MatchOption};
+ghost use Rattle.format.specs.Kind.{kind_number};
 ghost use Rattle.arguments.specs.Taken.{coordinate_of, unsigned_of, edge_of, measure_of, basis_taken, basis_given, clip_of, line_of, disc_of, ring_of, triangle_of, taken_of};
 
+use format::Kind;
 use shapes::{Basis, Clip, Disc, Line, Ring, Shape, Triangle};
 
 // A shape: its kind byte in a list, and its numbers in the order of the record's fields. Numbers past those that the kind has are ignored.
@@ -102,27 +104,37 @@ impl From<GivenClip> for Clip {
     }
 }
 
-// The shapes of each kind by the numbers.
 impl GivenShape {
+    // The kind, or none where there is none of the number.
+    pub fn kind(self) -> Option<Kind>
+        ensures { MatchOption result (10 < self.kind) (λ kind. kind_number kind ≡ self.kind) }
+    {
+        let number = u8::try_from(self.kind).ok()?;
+        Kind::try_from(number).ok()
+    }
+
+    // Each shape by its numbers.
     pub fn line(self, exact: bool) -> Line
         ensures { result ≡ line_of exact self.numbers }
     {
+        let [x0, y0, x1, y1, ..] = self.numbers;
         Line {
             exact,
-            x0: coordinate(self.numbers[0]),
-            y0: coordinate(self.numbers[1]),
-            x1: coordinate(self.numbers[2]),
-            y1: coordinate(self.numbers[3]),
+            x0: coordinate(x0),
+            y0: coordinate(y0),
+            x1: coordinate(x1),
+            y1: coordinate(y1),
         }
     }
 
     pub fn disc(self, big: bool) -> Disc
         ensures { result ≡ disc_of big self.numbers }
     {
+        let [x, y, radius, ..] = self.numbers;
         Disc {
-            x: coordinate(self.numbers[0]),
-            y: coordinate(self.numbers[1]),
-            radius: measure(self.numbers[2]),
+            x: coordinate(x),
+            y: coordinate(y),
+            radius: measure(radius),
             big,
         }
     }
@@ -130,11 +142,12 @@ impl GivenShape {
     pub fn ring(self, big: bool) -> Ring
         ensures { result ≡ ring_of big self.numbers }
     {
+        let [x, y, radius, width, ..] = self.numbers;
         Ring {
-            x: coordinate(self.numbers[0]),
-            y: coordinate(self.numbers[1]),
-            radius: measure(self.numbers[2]),
-            width: measure(self.numbers[3]),
+            x: coordinate(x),
+            y: coordinate(y),
+            radius: measure(radius),
+            width: measure(width),
             big,
         }
     }
@@ -142,13 +155,14 @@ impl GivenShape {
     pub fn triangle(self) -> Triangle
         ensures { result ≡ triangle_of self.numbers }
     {
+        let [x0, y0, x1, y1, x2, y2] = self.numbers;
         Triangle {
-            x0: coordinate(self.numbers[0]),
-            y0: coordinate(self.numbers[1]),
-            x1: coordinate(self.numbers[2]),
-            y1: coordinate(self.numbers[3]),
-            x2: coordinate(self.numbers[4]),
-            y2: coordinate(self.numbers[5]),
+            x0: coordinate(x0),
+            y0: coordinate(y0),
+            x1: coordinate(x1),
+            y1: coordinate(y1),
+            x2: coordinate(x2),
+            y2: coordinate(y2),
         }
     }
 }
@@ -158,14 +172,14 @@ impl GivenShape {
 pub fn taken_of(given: GivenShape) -> Option<Shape>
     ensures { result ≡ taken_of given }
 {
-    match given.kind {
-        3 => Some(Shape::Line(given.line(true))),
-        4 => Some(Shape::Line(given.line(false))),
-        5 => Some(Shape::Disc(given.disc(false))),
-        6 => Some(Shape::Ring(given.ring(false))),
-        8 => Some(Shape::Disc(given.disc(true))),
-        9 => Some(Shape::Ring(given.ring(true))),
-        10 => Some(Shape::Triangle(given.triangle())),
-        _ => None,
+    match given.kind()? {
+        Kind::ExactLine => Some(Shape::Line(given.line(true))),
+        Kind::ApproximateLine => Some(Shape::Line(given.line(false))),
+        Kind::Disc => Some(Shape::Disc(given.disc(false))),
+        Kind::BigDisc => Some(Shape::Disc(given.disc(true))),
+        Kind::Ring => Some(Shape::Ring(given.ring(false))),
+        Kind::BigRing => Some(Shape::Ring(given.ring(true))),
+        Kind::Triangle => Some(Shape::Triangle(given.triangle())),
+        Kind::End | Kind::Clip | Kind::Level | Kind::Player => None,
     }
 }

@@ -4,7 +4,7 @@ ghost use Rattle.format.specs.Format.{kind_size};
 ghost use Rattle.squeezed.specs.Squeeze.{same_clip};
 ghost use Rattle.squeeze.specs.inner.Walk.{is_setting};
 
-use format::kind_size;
+use format::{Kind, kind_size};
 use shapes::Clip;
 
 // How many kinds there are.
@@ -15,7 +15,10 @@ const KINDS: usize = 11;
 pub(crate) fn is_setting(kind: u8) -> bool
     ensures { result ≡ is_setting kind }
 {
-    matches!(kind, 1 | 2 | 7)
+    matches!(
+        Kind::try_from(kind),
+        Ok(Kind::Clip | Kind::Level | Kind::Player)
+    )
 }
 
 // Whether two clips are the same.

@@ -7,6 +7,8 @@ use crate::kinds::{is_setting, kind_sizes};
 use crate::put::put_shape;
 use crate::target::{Length, Target};
 use format::{HEADER_SIZE, Header};
+use settings::Settings;
+use shapes::Basis;
 
 #[derive(Clone, Copy)]
 pub(crate) struct Source<'a> {
@@ -28,14 +30,14 @@ impl Source<'_> {
     {
         let list = self.list;
         let sizes = kind_sizes();
-        let mut settings = settings::first_settings(format::basis_of(self.header));
+        let mut settings = Settings::start(Basis::from(self.header));
         let mut before = settings;
         let mut place = HEADER_SIZE;
         while place + 1 < list.len() {
             let kind = list[place];
             if is_setting(kind) {
                 let rec = decoding::decode(&list[place..]);
-                settings = settings::settings_after(settings, rec);
+                settings = settings.after(rec);
                 place = records::read::next_place(list, place);
             } else {
                 let next = place + sizes[kind as usize];

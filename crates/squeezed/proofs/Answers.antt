@@ -9,23 +9,21 @@ use Rattle.settings.specs.Drawing.{Drawing, drawings}
 use Rattle.lists.specs.List.{Records, accepted, refused, checked_as, pageless_records, checked_without_page}
 use Rattle.lists.specs.inner.Walk.{list_drawings}
 use Rattle.format.specs.declared.Header.{Header}
-use Rattle.lists.specs.declared.check.Checked.TheVariants.{Refused as refusedCheck}
+use Rattle.std.proofs.Common.{Result, Err}
 use Rattle.lists.proofs.Accepted.{AcceptedAs}
 use Rattle.lists.proofs.Walkable.{drawings_are}
 use Rattle.squeezed.specs.Squeeze.{squeezed, fitted, filled, squeeze_answer, squeeze_output}
-use Rattle.squeezed.specs.declared.Answer.{Answer}
-use Rattle.squeezed.specs.declared.Answer.TheVariants.{Refused}
 
-pub refused-claim : (s l : List ℕ) (f place : ℕ) → refusedCheck f place ≡ checked_without_page s
-    → (Refused f place ≡ squeeze_answer (length l) (header_at s) (pageless_records s)) × (l ≡ squeeze_output l (header_at s) (pageless_records s))
+pub refused-claim : (s l : List ℕ) (e : ℕ × ℕ) → Err e ≡ checked_without_page s
+    → (Err e ≡ squeeze_answer (length l) (header_at s) (pageless_records s)) × (l ≡ squeeze_output l (header_at s) (pageless_records s))
 unfolding squeeze_answer squeeze_output
-refused-claim s l f place e = go (pageless_records s) e
+refused-claim s l e k = go (pageless_records s) k
   where
-    go : (x : Records) → refusedCheck f place ≡ checked_as (header_at s) x → (Refused f place ≡ squeeze_answer (length l) (header_at s) x) × (l ≡ squeeze_output l (header_at s) x)
-    go (accepted rs) k = absurd (let z : ◌≡◌ {A = ℕ} 0 1 = cc in omega arith)
-    go (refused g q) k = let a : f ≡ g = cc in let b : place ≡ q = cc in (rw (a, b), refl)
+    go : (x : Records) → Err e ≡ checked_as (header_at s) x → (Err e ≡ squeeze_answer (length l) (header_at s) x) × (l ≡ squeeze_output l (header_at s) x)
+    go (accepted rs) j = absurd (let z : ◌≡◌ {A = ℕ} 0 1 = cc in omega arith)
+    go (refused g q) j = let same : e ≡ (g, q) = cc in (ap Err same, refl)
 
-pub accepted-claim : (s : List ℕ) (d : Header) (p : AcceptedAs [] s d) (l : List ℕ) {r : Answer} {m : List ℕ}
+pub accepted-claim : (s : List ℕ) (d : Header) (p : AcceptedAs [] s d) (l : List ℕ) {r : Result ℕ (ℕ × ℕ)} {m : List ℕ}
     → r ≡ fitted (length l) (squeezed d (list_drawings (basis_of d) s)) → m ≡ filled l (squeezed d (list_drawings (basis_of d) s))
     → (r ≡ squeeze_answer (length l) (header_at s) (pageless_records s)) × (m ≡ squeeze_output l (header_at s) (pageless_records s))
 unfolding squeeze_answer squeeze_output

@@ -1,11 +1,12 @@
 -- The settings that are kept bring those of each shape in force, so that a squeezed list has the drawings that it was made from.
 use mathlib.Core.Path.{◌≡◌, refl, sym, ◌∙◌, ap}
-use mathlib.Core.Bool.{Bool, true, false, ◌&&◌}
+use mathlib.Core.Bool.{Bool, true, false}
 use mathlib.Core.List.{List, [], ◌∷◌, ◌++◌, append_assoc}
 use Prim.Native.Nat.{ℕ}
 use borrow.Author.Tests.{eqb-true, eq-eqb}
 use lib.Dec.{eqb}
-use Rattle.numbers.proofs.Order.{both_true}
+use Rattle.std.proofs.Common.{arith}
+use Rattle.std.proofs.lemmas.Bool.Decides.{nat_tests}
 use Rattle.shapes.specs.declared.Clip.{Clip}
 use Rattle.shapes.specs.declared.Setting.{Setting}
 use Rattle.shapes.specs.declared.Setting.TheVariants.{Clip as clip, Level as level, Player as player}
@@ -21,13 +22,10 @@ use Rattle.squeezed.specs.Squeeze.{same_clip, change, changes, kept_from}
 pub same-clip : (a b : Clip) → same_clip a b ≡ true → a ≡ b
 unfolding same_clip
 same-clip a b e =
-    let three = both_true (eqb a.x0 b.x0 && eqb a.y0 b.y0 && eqb a.x1 b.x1) (eqb a.y1 b.y1) e in
-    let two = both_true (eqb a.x0 b.x0 && eqb a.y0 b.y0) (eqb a.x1 b.x1) three.0 in
-    let one = both_true (eqb a.x0 b.x0) (eqb a.y0 b.y0) two.0 in
-    let x0 = eqb-true a.x0 b.x0 one.0 in
-    let y0 = eqb-true a.y0 b.y0 one.1 in
-    let x1 = eqb-true a.x1 b.x1 two.1 in
-    let y1 = eqb-true a.y1 b.y1 three.1 in
+    let x0 : a.x0 ≡ b.x0 = grind (arith, nat_tests) in
+    let y0 : a.y0 ≡ b.y0 = grind (arith, nat_tests) in
+    let x1 : a.x1 ≡ b.x1 = grind (arith, nat_tests) in
+    let y1 : a.y1 ≡ b.y1 = grind (arith, nat_tests) in
     λ i. record { x0 = x0 i; y0 = y0 i; x1 = x1 i; y1 = y1 i }
 
 clip_itself : (c : Clip) → same_clip c c ≡ true

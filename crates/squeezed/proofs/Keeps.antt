@@ -24,8 +24,7 @@ use Rattle.lists.proofs.Walkable.{list_walkable, drawings_are}
 use Rattle.drawing.specs.Claim.{drawings_by, page_by, ClaimBy, outcome_by}
 use Rattle.squeezed.specs.Squeeze.{kept, squeezed, fitted, filled, squeeze_answer, squeeze_output}
 use Rattle.squeezed.specs.Claim.{squeezed_of, Keeps, KeepsBy}
-use Rattle.squeezed.specs.declared.Answer.{Answer}
-use Rattle.squeezed.specs.declared.Answer.TheVariants.{Squeezed, Refused}
+use Rattle.std.proofs.Common.{Result, Ok, Err}
 use Rattle.squeezed.specs.inner.Size.{size_of}
 use Rattle.squeezed.proofs.Changes.{drawings-kept}
 use Rattle.squeezed.proofs.Lawful.{holds_lawful, kept-lawful}
@@ -122,15 +121,15 @@ fitted-keeps : (s bs l : List ℕ) → Keeps s bs → KeepsBy s (fitted (length 
 unfolding KeepsBy
 fitted-keeps s bs l p = go (ltb (length l) (length bs))
   where
-    go : (short : Bool) → KeepsBy s (cond short (Refused 22 0) (Squeezed (length bs))) (cond short l (bs ++ drop (length bs) l))
+    go : (short : Bool) → KeepsBy s (cond short (Err (22, 0)) (Ok (length bs))) (cond short l (bs ++ drop (length bs) l))
     go true = tt
     go false = subst (Keeps s) (sym (take-append_seam bs (drop (length bs) l))) p
 
-pub keeps_by : (s l m : List ℕ) {r : Answer} → r ≡ squeeze_answer (length l) (header_at s) (pageless_records s)
+pub keeps_by : (s l m : List ℕ) {r : Result ℕ (ℕ × ℕ)} → r ≡ squeeze_answer (length l) (header_at s) (pageless_records s)
     → m ≡ squeeze_output l (header_at s) (pageless_records s) → KeepsBy s r m
 unfolding KeepsBy squeeze_answer squeeze_output
 keeps_by s l m {r} answer output =
-    subst (λ (a : Answer). KeepsBy s a m) (sym answer)
+    subst (λ (a : Result ℕ (ℕ × ℕ)). KeepsBy s a m) (sym answer)
     (subst (KeepsBy s (squeeze_answer (length l) (header_at s) (pageless_records s))) (sym output) (go (pageless_records s) refl))
   where
     go : (x : Records) → pageless_records s ≡ x → KeepsBy s (squeeze_answer (length l) (header_at s) x) (squeeze_output l (header_at s) x)
@@ -139,7 +138,7 @@ keeps_by s l m {r} answer output =
 
 -- an output as long as the list is never too short
 pub room_enough : (s : List ℕ) (rs : List Record) → pageless_records s ≡ accepted rs → (n : ℕ) → length s ≤ n
-    → squeeze_answer n (header_at s) (pageless_records s) ≡ Squeezed (length (squeezed_of s))
+    → squeeze_answer n (header_at s) (pageless_records s) ≡ Ok (length (squeezed_of s))
 unfolding squeeze_answer drawings_by
 room_enough s rs e n h =
     let bs : List ℕ = squeezed (header_at s) (drawings (basis_of (header_at s)) rs) in

@@ -9,12 +9,12 @@ use Rattle.settings.specs.Drawing.{Drawing, drawings}
 use Rattle.settings.specs.Ceiling.{ceiling}
 use Rattle.lists.specs.List.{Records, accepted, refused, checked_as}
 use Rattle.format.specs.declared.Header.{Header}
-use Rattle.lists.specs.declared.check.Checked.TheVariants.{Accepted}
+use Rattle.std.proofs.Common.{Ok}
 use Rattle.drawing.specs.Touches.{touches_at}
 use Rattle.drawing.specs.Page.{drawn_page}
 use Rattle.drawing.specs.Counts.{shapes_count, player_counts, Counted}
 use Rattle.drawing.specs.Claim.{answer_by, drawings_by, page_by, ByteBounded, Bounded, ClaimBy, outcome_by}
-use Rattle.drawing.specs.declared.Outcome.{Outcome}
+use Rattle.drawing.specs.Outcome.{Outcome}
 
 -- two lists with the header d are both accepted, with the same drawings, or neither is, with one refusal at one place
 pub data Same (d : Header) : Records → Records → Type 0 where
@@ -23,7 +23,7 @@ pub data Same (d : Header) : Records → Records → Type 0 where
 
 module _ {d : Header} where
   pub same-checked : {x y : Records} → Same d x y → checked_as d x ≡ checked_as d y
-  same-checked (both e) = ap (λ (ds : List Drawing). Accepted d (ceiling ds)) e
+  same-checked (both e) = ap (λ (ds : List Drawing). Ok (record { header = d; ceiling = ceiling ds })) e
   same-checked neither = refl
 
   same_answer : {x y : Records} → Same d x y → answer_by d x ≡ answer_by d y

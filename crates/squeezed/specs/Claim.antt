@@ -1,15 +1,13 @@
 -- What a squeezed list keeps (R10.7).
-use Rattle.std.specs.Prelude.{Bool, ◌≡◌, List, [], ◌∷◌, ℕ, ◌≤◌, length, take}
+use Rattle.std.specs.Prelude.{Bool, ◌≡◌, List, [], ◌∷◌, ℕ, ◌≤◌, length, take, Result, Ok, Err}
 use Rattle.shapes.specs.declared.Record.TheVariants.{Shape as shape}
 use Rattle.format.specs.Format.{header_at, record_bytes}
 use Rattle.settings.specs.Drawing.{Drawing}
 use Rattle.lists.specs.List.{records_of, checked_as, pageless_records}
 use Rattle.settings.specs.declared.Settings.{Settings}
 use Rattle.drawing.specs.Claim.{drawings_by, Claim, list_outcome, list_page}
-use Rattle.drawing.specs.declared.Outcome.{Outcome}
+use Rattle.drawing.specs.Outcome.{Outcome}
 use Rattle.squeezed.specs.Squeeze.{squeezed}
-use Rattle.squeezed.specs.declared.Answer.{Answer}
-use Rattle.squeezed.specs.declared.Answer.TheVariants.{Squeezed, Refused}
 
 -- the bytes that a list s is squeezed to
 abbrev pub squeezed_of : List ℕ → List ℕ
@@ -36,6 +34,6 @@ stored [] = []
 stored (d ∷ ds) = (d.settings, record_bytes (shape d.shape)) ∷ stored ds
 
 -- by the answer to squeezing s into an output, which is then m: the bytes of the length that is told keep what s says
-unfoldable pub KeepsBy : List ℕ → Answer → List ℕ → Type 0
-KeepsBy s (Squeezed n) m = Keeps s (take n m)
-KeepsBy s (Refused f place) m = Unit {0}
+unfoldable pub KeepsBy : List ℕ → Result ℕ (ℕ × ℕ) → List ℕ → Type 0
+KeepsBy s (Ok n) m = Keeps s (take n m)
+KeepsBy s (Err e) m = Unit {0}

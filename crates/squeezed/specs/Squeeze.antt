@@ -1,5 +1,5 @@
 -- "Lists squeezed for storage": the records that a squeezed list has, and its bytes, by the header and the drawings of a list (R7.8).
-use Rattle.std.specs.Prelude.{Bool, cond, ◌&&◌, List, [], ◌∷◌, ◌++◌, ℕ, ltb, eqb, length, drop}
+use Rattle.std.specs.Prelude.{Bool, cond, ◌&&◌, List, [], ◌∷◌, ◌++◌, ℕ, ltb, eqb, length, drop, Result, Ok, Err}
 use Rattle.shapes.specs.declared.Clip.{Clip}
 use Rattle.shapes.specs.declared.Setting.{Setting}
 use Rattle.shapes.specs.declared.Setting.TheVariants.{Clip as clip, Level as level, Player as player}
@@ -11,13 +11,11 @@ use Rattle.settings.specs.Drawing.{Drawing, drawings}
 use Rattle.lists.specs.List.{Records, accepted, refused}
 use Rattle.format.specs.declared.Header.{Header}
 use Rattle.settings.specs.declared.Settings.{Settings}
-use Rattle.squeezed.specs.declared.Answer.{Answer}
-use Rattle.squeezed.specs.declared.Answer.TheVariants.{Squeezed, Refused}
 
 -- ---- its records
 
 unfoldable pub same_clip : Clip → Clip → Bool
-same_clip a b = eqb a.x0 b.x0 && eqb a.y0 b.y0 && eqb a.x1 b.x1 && eqb a.y1 b.y1
+same_clip a b = eqb a.x0 b.x0 && (eqb a.y0 b.y0 && (eqb a.x1 b.x1 && eqb a.y1 b.y1))
 
 -- a setting is a record, or nothing where its value is the same
 unfoldable pub change : Bool → Setting → List Record
@@ -56,17 +54,17 @@ squeezed d ds = list_bytes d (kept d ds)
 -- ---- what squeezing a list with the header d into an output l answers and leaves
 
 -- the length of the bytes bs, or 22 at place 0 where n bytes are too few for them
-abbrev pub fitted : ℕ → List ℕ → Answer
-fitted n bs = cond (ltb n (length bs)) (Refused 22 0) (Squeezed (length bs))
+abbrev pub fitted : ℕ → List ℕ → Result ℕ (ℕ × ℕ)
+fitted n bs = cond (ltb n (length bs)) (Err (22, 0)) (Ok (length bs))
 
 -- the bytes bs, and behind them what l holds there; where they do not fit, l as it was
 abbrev pub filled : List ℕ → List ℕ → List ℕ
 filled l bs = cond (ltb (length l) (length bs)) l (bs ++ drop (length bs) l)
 
 -- by the records of the list, or by its refusal, which comes before 22
-unfoldable pub squeeze_answer : ℕ → Header → Records → Answer
+unfoldable pub squeeze_answer : ℕ → Header → Records → Result ℕ (ℕ × ℕ)
 squeeze_answer n d (accepted rs) = fitted n (squeezed d (drawings (basis_of d) rs))
-squeeze_answer n d (refused f place) = Refused f place
+squeeze_answer n d (refused f place) = Err (f, place)
 
 unfoldable pub squeeze_output : List ℕ → Header → Records → List ℕ
 squeeze_output l d (accepted rs) = filled l (squeezed d (drawings (basis_of d) rs))

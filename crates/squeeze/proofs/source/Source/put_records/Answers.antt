@@ -7,7 +7,7 @@ use Rattle.squeeze.proofs.source.Source.put_records.Goals as goal
 pub loop-place-init : goal.loop-place-init
 loop-place-init g c =
     let first = taking_start (g.met.T.Target.none c.args.target.now) c.args.self.walkable in
-    rw (c.first_settings-settings.ensures, c.basis_of.ensures) first
+    rw (c.start-settings.ensures, c.from.ensures) first
 
 pub overflow_add-place : goal.overflow_add-place
 overflow_add-place g c =
@@ -31,7 +31,7 @@ pub loop-place-preserved-then-is_setting : goal.loop-place-preserved-then-is_set
 loop-place-preserved-then-is_setting g c =
     let turn = c.loop-place.invariant in
     taking_setting turn (squeezing_more turn.walk c.loop-place-test.true) c.decode-rec.ensures c.next_place-place.ensures
-    (sym c.is_setting.ensures ∙ c.if-is_setting.true) c.settings_after-settings.ensures
+    (sym c.is_setting.ensures ∙ c.if-is_setting.true) c.after-settings.ensures
 
 pub bounds-sizes-kind : goal.bounds-sizes-kind
 bounds-sizes-kind g c = kind-below _ (left-inside c.loop-place.invariant.walk.left).2
