@@ -5,7 +5,7 @@ ghost use Rattle.answers.specs.Record.{numbers_of, record_answer, read_answer, w
 
 use crate::number_of;
 use arguments::GivenBasis;
-use format::Kind;
+use format::{Kind, record_size};
 use limits::Refusal;
 use records::write::Cursor;
 use shapes::{Record, Setting, Shape};
@@ -82,7 +82,7 @@ impl From<Record> for ReadAnswer {
         ReadAnswer {
             refusal: 0,
             place: 0,
-            size: kind.size(),
+            size: record_size(rec),
             kind: u8::from(kind).into(),
             numbers: record_numbers(rec),
         }

@@ -4,6 +4,7 @@ use Rattle.shapes.specs.declared.Record.{Record}
 use Rattle.shapes.specs.declared.Record.TheVariants.{Shape as shape}
 use Rattle.format.specs.declared.Header.{Header}
 use Rattle.records.specs.Write.{header_written, record_written, record_list}
+use Rattle.records.specs.declared.write.Cursor.{Cursor}
 use Rattle.arguments.specs.Taken.{unsigned_of, basis_taken}
 use Rattle.arguments.specs.declared.GivenBasis.{GivenBasis}
 use Rattle.shapes.specs.declared.Shape.{Shape}
@@ -17,15 +18,19 @@ abbrev pub header_of : GivenBasis → ℕ → Header
 header_of b background =
     record { version = unsigned_of b.version; w = unsigned_of b.w; h = unsigned_of b.h; background = background }
 
+-- where a writer stands by the numbers of C
+abbrev pub cursor_of : ℕ → GivenBasis → Cursor
+cursor_of place b = record { place = place; basis = basis_taken b }
+
 -- a header, a record and a shape by the numbers of C, into the list l where the basis b is held, and the list after it
 unfoldable pub header_put : List ℕ → ℕ → GivenBasis → Header → WriteAnswer
-header_put l place b d = write_answer b (header_written l place (basis_taken b) d)
+header_put l place b d = write_answer b place (header_written l d)
 
 unfoldable pub record_put : List ℕ → ℕ → GivenBasis → Record → WriteAnswer
-record_put l place b r = write_answer b (record_written l place (basis_taken b) r)
+record_put l place b r = write_answer b place (record_written l (cursor_of place b) r)
 
 unfoldable pub after_record : List ℕ → ℕ → GivenBasis → Record → List ℕ
-after_record l place b r = record_list l place (basis_taken b) r
+after_record l place b r = record_list l (cursor_of place b) r
 
 unfoldable pub shape_put : List ℕ → ℕ → GivenBasis → Option Shape → WriteAnswer
 shape_put l place b (Some s) = record_put l place b (shape s)

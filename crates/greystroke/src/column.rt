@@ -1,15 +1,17 @@
 // The last column of a line in which it touches a pixel.
 ghost use Rattle.std.specs.Prelude.{◌≡◌};
+ghost use Rattle.limits.specs.Refusal.{numbered};
 ghost use Rattle.answers.specs.Shape.{reached};
 ghost use Rattle.greystroke.specs.Shape.{column_asked};
 
 use answers::shape::ColumnAnswer;
 use arguments::{GivenClip, GivenShape, unsigned};
+use limits::Refusal;
 
 // Only a line has columns.
 #[tactic(auto, unfolding(crate::specs::Shape::column_asked))]
-fn ask(w: u32, h: u32, clip: GivenClip, shape: GivenShape) -> last_column::Reach
-    ensures { result ≡ column_asked w h clip shape }
+fn ask(w: u32, h: u32, clip: GivenClip, shape: GivenShape) -> Result<Option<u64>, Refusal>
+    ensures { numbered result ≡ column_asked w h clip shape }
 {
     let kind = shape.kind;
     match kind {
@@ -19,7 +21,7 @@ fn ask(w: u32, h: u32, clip: GivenClip, shape: GivenShape) -> last_column::Reach
             clip.into(),
             shape.line(kind == 3),
         ),
-        _ => last_column::Reach::Refused(4),
+        _ => Err(Refusal::Kind),
     }
 }
 

@@ -6,6 +6,7 @@ ghost use Rattle.greystroke.specs.Shape.{coverage_asked};
 
 use answers::shape::CoverageAnswer;
 use arguments::{GivenShape, coordinate};
+use limits::Refusal;
 
 // The coverage of pixel (x, y) by a shape.
 #[tactic(auto, unfolding(crate::specs::Shape::coverage_asked))]
@@ -15,6 +16,6 @@ pub extern "C" fn greystroke_coverage(shape: GivenShape, x: i32, y: i32) -> Cove
 {
     match arguments::taken_of(shape) {
         Some(known) => coverage::coverage(known, coordinate(x), coordinate(y)).into(),
-        None => coverage::Answer::Refused(4).into(),
+        None => Err(Refusal::Kind).into(),
     }
 }

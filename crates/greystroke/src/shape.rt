@@ -1,14 +1,17 @@
 // One shape on a lent page.
 ghost use Rattle.std.specs.Prelude.{◌≡◌, length};
+ghost use Rattle.limits.specs.Refusal.{numbered};
 ghost use Rattle.arguments.specs.Taken.{taken_of};
 ghost use Rattle.answers.specs.Shape.{drawn};
 ghost use Rattle.greystroke.specs.Shape.{shape_drawn, page_drawn};
 
 use answers::shape::DrawAnswer;
 use arguments::{GivenClip, GivenShape, unsigned};
+use draw::draw_shape;
+use limits::Refusal;
 use shapes::Clip;
 
-// Each kind is drawn by a function of its own, so that no shape has to be told apart again below.
+// Each kind is drawn as what it is, so that no shape has to be told apart again below.
 fn draw(
     page: &mut [u8],
     w: u32,
@@ -17,8 +20,8 @@ fn draw(
     clip: GivenClip,
     level: u8,
     shape: GivenShape,
-) -> draw::Outcome
-    ensures value { result ≡ shape_drawn w h (length page.old) lights.now clip (taken_of shape) }
+) -> Result<u64, Refusal>
+    ensures value { numbered result ≡ shape_drawn w h (length page.old) lights.now clip (taken_of shape) }
     ensures page_after { page.new ≡ page_drawn w h lights.now clip level (taken_of shape) page.old }
 {
     let w = unsigned(w);
@@ -26,11 +29,11 @@ fn draw(
     let kept = Clip::from(clip);
     let kind = shape.kind;
     match kind {
-        3 | 4 => draw::draw_line(page, w, h, lights, kept, level, shape.line(kind == 3)),
-        5 | 8 => draw::draw_disc(page, w, h, lights, kept, level, shape.disc(kind == 8)),
-        6 | 9 => draw::draw_ring(page, w, h, lights, kept, level, shape.ring(kind == 9)),
-        10 => draw::draw_triangle(page, w, h, lights, kept, level, shape.triangle()),
-        _ => draw::Outcome::Refused(4),
+        3 | 4 => draw_shape(page, w, h, lights, kept, level, shape.line(kind == 3)),
+        5 | 8 => draw_shape(page, w, h, lights, kept, level, shape.disc(kind == 8)),
+        6 | 9 => draw_shape(page, w, h, lights, kept, level, shape.ring(kind == 9)),
+        10 => draw_shape(page, w, h, lights, kept, level, shape.triangle()),
+        _ => Err(Refusal::Kind),
     }
 }
 

@@ -7,6 +7,8 @@ ghost use Rattle.greystroke.specs.Writing.{header_of, header_put, record_put, af
 use answers::record::{WriteAnswer, write_answer};
 use arguments::{GivenBasis, GivenClip, GivenShape};
 use format::Header;
+use limits::Refusal;
+use records::write::Cursor;
 use shapes::{Basis, Record, Setting};
 
 // Writes a header of a version, W and H to byte 0; held is the basis that the writer holds.
@@ -22,7 +24,6 @@ pub extern "C" fn greystroke_write_header(
     ensures value { result ≡ header_put list.old place held (header_of basis background) }
     ensures list_after { list.new ≡ header_list list.old (header_of basis background) }
 {
-    let kept = Basis::from(held);
     let told = Basis::from(basis);
     let header = Header {
         version: told.version,
@@ -30,8 +31,7 @@ pub extern "C" fn greystroke_write_header(
         h: told.h,
         background,
     };
-    let written = records::write::write_header(list, place, kept.version, kept.w, kept.h, header);
-    write_answer(held, written)
+    write_answer(held, place, records::write::write_header(list, header))
 }
 
 // Every record is written so.
@@ -40,9 +40,11 @@ fn write(list: &mut [u8], place: usize, basis: GivenBasis, rec: Record) -> Write
     ensures value { result ≡ record_put list.old place basis rec }
     ensures list_after { list.new ≡ after_record list.old place basis rec }
 {
-    let kept = Basis::from(basis);
-    let written = records::write::write_record(list, place, kept.version, kept.w, kept.h, rec);
-    write_answer(basis, written)
+    let at = Cursor {
+        place,
+        basis: basis.into(),
+    };
+    write_answer(basis, place, records::write::write_record(list, at, rec))
 }
 
 // Writes an end record to the place.
@@ -119,11 +121,6 @@ pub extern "C" fn greystroke_write_shape(
 {
     match arguments::taken_of(shape) {
         Some(known) => write(list, place, basis, Record::Shape(known)),
-        None => WriteAnswer {
-            refusal: 4,
-            place: 0,
-            next: place,
-            basis,
-        },
+        None => write_answer(basis, place, Err(Refusal::Kind)),
     }
 }
