@@ -118,7 +118,7 @@ impl Kind {
     }
 }
 
-// How many bytes a record of the kind of a number has, and 0 for an unknown kind.
+// How many bytes a record of the kind of a number has, and 0 for an unknown kind: a walk over a list has the byte alone.
 #[tactic(auto, using(crate::proofs::Bytes::unknown_kind_lem))]
 pub fn kind_size(number: u8) -> usize
     ensures { result ≡ kind_size number }

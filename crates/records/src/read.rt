@@ -22,7 +22,8 @@ fn cut_short(left: usize, kind: u8) -> bool
     left < RECORD_MOST && left < kind_size(kind)
 }
 
-// Tries the front of some bytes, as far as it is tried before the fields of the record are read.
+// Tries the front of some bytes, as far as it is tried before the fields of the record are read. The kind is tried as a byte: a walk over a
+// list tells it apart once, where it decodes.
 #[tactic(auto, using(std::proofs::lemmas::Bool::Decides::nat_tests), unfolding(crate::specs::inner::Front::opening_refusal))]
 fn check_opening(list: &[u8], basis: Basis) -> Result<(), Refusal>
     ensures { told result ≡ opening_refusal basis list.now }

@@ -40,7 +40,7 @@ impl Writer<'_> {
     }
 }
 
-// The answers for a header and for one record behind it, and the place that is reached.
+// The answers for a header and for one record behind it, and the place that is reached. Both are told, so that no `?` ends the start early.
 #[derive(Clone, Copy)]
 pub struct Started {
     pub header: Result<(), Refusal>,
