@@ -20,13 +20,14 @@ fn extent(a: i16, b: i16, c: i16) -> u16
 }
 
 // What a line, a disc or a ring, and a triangle count.
+// Spans are told in 64 bits, as offsets are: in 16 the check of a list takes longer.
 #[tactic(auto, using(crate::proofs::Coordinates::coordinates), unfolding(crate::specs::Ceiling::shape_ceiling, shapes::specs::Span::longer, shapes::specs::Span::span_x, shapes::specs::Span::span_y))]
 fn line_ceiling(line: Line) -> u64
     ensures { result ≡ shape_ceiling (Shape.Line line) }
 {
-    let x = line.x1.abs_diff(line.x0);
-    let y = line.y1.abs_diff(line.y0);
-    3 * u64::from(x.max(y))
+    let x = i64::from(line.x1).abs_diff(i64::from(line.x0));
+    let y = i64::from(line.y1).abs_diff(i64::from(line.y0));
+    3 * x.max(y)
 }
 
 fn circle_ceiling(radius: u16) -> u64

@@ -1,6 +1,5 @@
 -- Laws of distances from a centre.
-use Prim.Native.Nat.{ℕ, ◌+◌, ◌-◌, ◌≤◌, ◌<◌}
-use native.Mathlib.Omega.{arith}
+use Rattle.std.proofs.Common.{ℕ, ◌+◌, ◌-◌, ◌≤◌, ◌<◌, arith}
 use Rattle.chords.specs.inner.Circle.{apart}
 
 -- nearer to c than d, or at least as far on its left or on its right

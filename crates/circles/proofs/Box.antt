@@ -1,8 +1,6 @@
 -- The box of a ring: a clip that is cut down to it draws the same.
-use mathlib.Core.Path.{◌≡◌, fun_ext}
-use mathlib.Core.Logic.{◌⊎◌, inl, inr}
-use mathlib.Core.List.{List}
-use Prim.Native.Nat.{ℕ, ◌+◌, ◌≤◌}
+use mathlib.Core.Path.{fun_ext}
+use Rattle.std.proofs.Common.{◌≡◌, ℕ, ◌+◌, ◌≤◌, ◌⊎◌, inl, inr, List}
 use Rattle.numbers.specs.inner.Offset.{origin}
 use Rattle.page.specs.inner.Paint.{in_view, Lawful, Drawn}
 use Rattle.page.specs.declared.View.{View}

@@ -1,10 +1,5 @@
 -- Laws of a row that is drawn in stretches.
-use mathlib.Core.Path.{◌≡◌, refl, sym, ap, ap₂, ◌∙◌}
-use mathlib.Core.Logic.{⊎_elim}
-use mathlib.Core.List.{List}
-use Prim.Native.Nat.{ℕ, ◌+◌, ◌-◌, ◌≤◌, ◌<◌}
-use native.Mathlib.Omega.{arith}
-use lib.ListN.{length, get_or, set, length-set}
+use Rattle.std.proofs.Common.{◌≡◌, ℕ, ◌+◌, ◌-◌, ◌≤◌, ◌<◌, ⊎_elim, List, length, get_or, set, refl, sym, ap, ap₂, ◌∙◌, arith, length-set}
 use Rattle.numbers.specs.inner.Offset.{origin}
 use Rattle.numbers.specs.Sum.{sum_to}
 use Rattle.numbers.proofs.Sum.{sum-none, sum_more, sum_le}

@@ -58,9 +58,9 @@ fn box_of(view: View, ring: Ring) -> View
 }
 
 // Draws a ring whose heights are held, within a clip that is cut down to its box.
-fn draw_held<I: Ink>(page: &mut [u8], ink: I, view: View, circles: Circles) -> u64
-    requires { Placed view (length page.old) circles.ring × (I.whole ink ≡ 512) }
-    ensures { RingDrawn (I.blends ink) view circles.entry view.x0 view.y0 view.x1 view.y1 page.old page.new result }
+fn draw_held<I: Ink>(page: &mut [u8], ink: I, view: View, circles: &Circles) -> u64
+    requires { Placed view (length page.old) circles.now.ring × (I.whole ink ≡ 512) }
+    ensures { RingDrawn (I.blends ink) view circles.now view.x0 view.y0 view.x1 view.y1 page.old page.new result }
 {
     let ring = circles.ring;
     if encloses(view.x0, view.x1, ring.cx, ring.radius)
@@ -96,7 +96,7 @@ fn draw_by_heights<I: Ink>(
 {
     heights(outer, ring.radius);
     hole_heights(inner, ring.hole);
-    draw_held(page, ink, view, Circles { ring, outer, inner })
+    draw_held(page, ink, view, &Circles { ring, outer, inner })
 }
 
 // Draws a ring by heights in two arrays of N. Each size has a function of its own, so that large arrays do not grow the stack frame of small ones.
@@ -126,7 +126,8 @@ fn draw_boxed<I: Ink>(page: &mut [u8], ink: I, view: View, ring: Ring) -> u64
     }
 }
 
-// Draws what lies between the circles of a ring within the view's clip.
+// Draws what lies between the circles of a ring within the view's clip. It stands in line, as a small ring feels each call.
+#[inline(always)]
 fn draw_between<I: Ink>(page: &mut [u8], ink: I, view: View, ring: Ring) -> u64
     requires { Lawful view (length page.old) × (I.whole ink ≡ 512) }
     ensures { DrawnIn view (I.blends ink) (covered_on ring) page.old page.new result }

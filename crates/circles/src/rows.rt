@@ -14,7 +14,7 @@ use super::encloses;
 use chords::apart_of;
 use mirrored::draw_sides;
 use numbers::ORIGIN;
-use page::{Ink, View, clamp_offset};
+use page::{Ink, View, clamp_offset, fill_row};
 use rings::{Circles, Ring, Widths};
 
 // The first column of the clip that is nearer than d to the centre, and the first past those.
@@ -32,11 +32,11 @@ pub(crate) fn right_at(view: View, ring: Ring, d: u64) -> usize
 }
 
 // Blends a stretch whose first pixel is in column x of the row at distance b; hands back how many pixels it touched.
-fn blend_edge<I: Ink>(stretch: &mut [u8], ink: I, circles: Circles, x: usize, b: u64) -> u64
-    requires inked { (I.whole ink ≡ 512) × (b < circles.ring.radius) × (x + length stretch.old ≤ 1024) }
-    requires by_index { (i : ℕ) → i < length stretch.old → apart circles.ring.cx (x + i + origin) ≤ radius_most }
-    ensures stretch_after { stretch.new ≡ over (λ i. dot (I.blends ink) (in_stretch circles.entry x b i)) stretch.old }
-    ensures value { result ≡ sum_to (length stretch.old) (λ i. touch (in_stretch circles.entry x b i)) }
+fn blend_edge<I: Ink>(stretch: &mut [u8], ink: I, circles: &Circles, x: usize, b: u64) -> u64
+    requires inked { (I.whole ink ≡ 512) × (b < circles.now.ring.radius) × (x + length stretch.old ≤ 1024) }
+    requires by_index { (i : ℕ) → i < length stretch.old → apart circles.now.ring.cx (x + i + origin) ≤ radius_most }
+    ensures stretch_after { stretch.new ≡ over (λ i. dot (I.blends ink) (in_stretch circles.now x b i)) stretch.old }
+    ensures value { result ≡ sum_to (length stretch.old) (λ i. touch (in_stretch circles.now x b i)) }
 {
     let mut touched: u64 = 0;
     for (i, u) in stretch.iter_mut().enumerate() {
@@ -48,20 +48,25 @@ fn blend_edge<I: Ink>(stretch: &mut [u8], ink: I, circles: Circles, x: usize, b:
     touched
 }
 
-// Draws columns from to end of row y pixel by pixel.
+// Draws columns from to end of row y pixel by pixel. An edge that the clip leaves out, as most of a large ring are, costs a test. What a row is
+// drawn by stands in line: a call would write its structs to memory in each row.
+#[inline(always)]
 fn draw_edge<I: Ink>(
     page: &mut [u8],
     ink: I,
     view: View,
-    circles: Circles,
+    circles: &Circles,
     y: usize,
     from: usize,
     end: usize,
 ) -> u64
-    requires ready { Placed view (length page.old) circles.ring × (I.whole ink ≡ 512) }
+    requires ready { Placed view (length page.old) circles.now.ring × (I.whole ink ≡ 512) }
     requires y0_le_y { (view.y0 ≤ y) × (y < view.y1) × (view.x0 ≤ from) × (from ≤ end) × (end ≤ view.x1) }
-    ensures { RingDrawn (I.blends ink) view circles.entry from y end (y + 1) page.old page.new result }
+    ensures { RingDrawn (I.blends ink) view circles.now from y end (y + 1) page.old page.new result }
 {
+    if end <= from {
+        return 0;
+    }
     let w = view.w;
     let a = y * w + from;
     let e = y * w + end;
@@ -69,66 +74,27 @@ fn draw_edge<I: Ink>(
     blend_edge(&mut page[a..e], ink, circles, from, b)
 }
 
-// Draws columns p to q of row y. An edge that the clip leaves out, as most of a large ring are, costs a test.
-fn draw_left<I: Ink>(
-    page: &mut [u8],
-    ink: I,
-    view: View,
-    circles: Circles,
-    y: usize,
-    p: usize,
-    q: usize,
-) -> u64
-    requires ready { Placed view (length page.old) circles.ring × (I.whole ink ≡ 512) }
-    requires y0_le_y { (view.y0 ≤ y) × (y < view.y1) × (view.x0 ≤ p) × (p ≤ q) × (q ≤ view.x1) }
-    ensures { RingDrawn (I.blends ink) view circles.entry p y q (y + 1) page.old page.new result }
-{
-    if q <= p {
-        return 0;
-    }
-    draw_edge(page, ink, view, circles, y, p, q)
-}
-
-// Draws columns q to s of row y, of which q to r are whole.
-fn draw_right<I: Ink>(
-    page: &mut [u8],
-    ink: I,
-    view: View,
-    circles: Circles,
-    y: usize,
-    q: usize,
-    r: usize,
-    s: usize,
-) -> u64
-    requires ready { Placed view (length page.old) circles.ring × (I.whole ink ≡ 512) }
-    requires band { Band circles view y q q r s }
-    ensures { RingDrawn (I.blends ink) view circles.entry q y s (y + 1) page.old page.new result }
-{
-    let whole = page::fill_row(page, view, ink.level(), y, q, r);
-    if s <= r {
-        return whole;
-    }
-    whole + draw_edge(page, ink, view, circles, y, r, s)
-}
-
 // Draws columns p to s of row y, of which q to r are whole.
+#[inline(always)]
 fn draw_band<I: Ink>(
     page: &mut [u8],
     ink: I,
     view: View,
-    circles: Circles,
+    circles: &Circles,
     y: usize,
     p: usize,
     q: usize,
     r: usize,
     s: usize,
 ) -> u64
-    requires ready { Placed view (length page.old) circles.ring × (I.whole ink ≡ 512) }
-    requires band { Band circles view y p q r s }
-    ensures { RingDrawn (I.blends ink) view circles.entry p y s (y + 1) page.old page.new result }
+    requires ready { Placed view (length page.old) circles.now.ring × (I.whole ink ≡ 512) }
+    requires band { Band circles.now view y p q r s }
+    ensures { RingDrawn (I.blends ink) view circles.now p y s (y + 1) page.old page.new result }
 {
-    let left = draw_left(page, ink, view, circles, y, p, q);
-    left + draw_right(page, ink, view, circles, y, q, r, s)
+    let left = draw_edge(page, ink, view, circles, y, p, q);
+    let whole = fill_row(page, view, ink.level(), y, q, r);
+    let right = draw_edge(page, ink, view, circles, y, r, s);
+    left + whole + right
 }
 
 // Draws the columns of the clip in row y: one band, or a band on each side of the hole where the row meets the inner circle.
@@ -136,13 +102,13 @@ fn draw_bands<I: Ink>(
     page: &mut [u8],
     ink: I,
     view: View,
-    circles: Circles,
+    circles: &Circles,
     row: Widths,
     y: usize,
 ) -> u64
-    requires ready { Placed view (length page.old) circles.ring × (I.whole ink ≡ 512) × (view.y0 ≤ y) × (y < view.y1) }
-    requires measured { Measured circles (apart circles.ring.cy (y + origin)) row }
-    ensures { RingDrawn (I.blends ink) view circles.entry view.x0 y view.x1 (y + 1) page.old page.new result }
+    requires ready { Placed view (length page.old) circles.now.ring × (I.whole ink ≡ 512) × (view.y0 ≤ y) × (y < view.y1) }
+    requires measured { Measured circles.now (apart circles.now.ring.cy (y + origin)) row }
+    ensures { RingDrawn (I.blends ink) view circles.now view.x0 y view.x1 (y + 1) page.old page.new result }
 {
     let ring = circles.ring;
     let p = left_at(view, ring, row.outer);
@@ -162,9 +128,9 @@ fn draw_bands<I: Ink>(
 }
 
 // Draws the columns of the clip in row y, both sides at once where it has them whole.
-fn draw_row<I: Ink>(page: &mut [u8], ink: I, view: View, circles: Circles, y: usize) -> u64
-    requires { Placed view (length page.old) circles.ring × (I.whole ink ≡ 512) × (view.y0 ≤ y) × (y < view.y1) }
-    ensures { RingDrawn (I.blends ink) view circles.entry view.x0 y view.x1 (y + 1) page.old page.new result }
+fn draw_row<I: Ink>(page: &mut [u8], ink: I, view: View, circles: &Circles, y: usize) -> u64
+    requires { Placed view (length page.old) circles.now.ring × (I.whole ink ≡ 512) × (view.y0 ≤ y) × (y < view.y1) }
+    ensures { RingDrawn (I.blends ink) view circles.now view.x0 y view.x1 (y + 1) page.old page.new result }
 {
     let b = apart_of(circles.ring.cy, y as u64 + ORIGIN);
     let row = circles.measure(b);
@@ -175,9 +141,9 @@ fn draw_row<I: Ink>(page: &mut [u8], ink: I, view: View, circles: Circles, y: us
 }
 
 // Draws the rows of the clip.
-pub(crate) fn draw_rows<I: Ink>(page: &mut [u8], ink: I, view: View, circles: Circles) -> u64
-    requires { Placed view (length page.old) circles.ring × (I.whole ink ≡ 512) }
-    ensures { RingDrawn (I.blends ink) view circles.entry view.x0 view.y0 view.x1 view.y1 page.old page.new result }
+pub(crate) fn draw_rows<I: Ink>(page: &mut [u8], ink: I, view: View, circles: &Circles) -> u64
+    requires { Placed view (length page.old) circles.now.ring × (I.whole ink ≡ 512) }
+    ensures { RingDrawn (I.blends ink) view circles.now view.x0 view.y0 view.x1 view.y1 page.old page.new result }
 {
     let mut touched: u64 = 0;
     for y in view.y0..view.y1 {

@@ -8,7 +8,7 @@ use lib.IntN.{ℤ, pos, nat_abs, sub_ℕ, ◌-ℤ◌}
 use Rattle.numbers.specs.inner.Offset.{offset_most, offset_of}
 use Rattle.numbers.proofs.Order.{cond_le}
 use Rattle.numbers.proofs.Integer.{Diff, above, below, diff_sub, diff_pos, diff_minus, diff_shift, diff_unique}
-use Rattle.numbers.proofs.Coordinate.{InRange}
+use Rattle.numbers.proofs.Coordinate.{InRange, in_range_lem}
 use Rattle.shapes.specs.declared.Line.{Line}
 use Rattle.bands.specs.Line.{row_of, rest_of}
 use Rattle.bands.specs.inner.Rows.{rule_of, whole_of, rows_of, at_row}
@@ -18,6 +18,14 @@ use Rattle.bands.specs.inner.Frame.{row_origin, row_by, row_at, Framed}
 use Rattle.coverage.specs.Coverage.{in_columns, line_cover, line_rules, rules_of, drawn_n, drawn_d}
 use Rattle.shapes.specs.declared.Shape.TheVariants.{Line as line}
 use Rattle.bands.specs.declared.Frame.{Frame}
+use Rattle.std.proofs.Common.{◌⊎◌, is_le, is_lt, nat_cmp, inl, inr}
+use Rattle.std.proofs.lemmas.Bool.Decides.{nat_tests}
+use mir.Syntax.{w16}
+use mir.Val.{SFits, to_z, of_z}
+use Rattle.numbers.specs.Coordinate.{in_range}
+use Rattle.shapes.specs.declared.Point.{Point}
+use Rattle.shapes.specs.inner.Offsets.{point_of}
+use Rattle.limits.proofs.Limits.{point_kept}
 use Rattle.bands.proofs.Column.{part-is}
 use Rattle.bands.proofs.Framing.{column_diff, row-rising, row_falling}
 
@@ -94,3 +102,27 @@ module _ {n : Line} {f : Frame} (g : Framed n f) where
         ∙ rw (g.l_is, g.s_is) refl
         ∙ sym (ap nat_abs (in_columns_lem (longer n) ruled (column_diff g px py) h (omega (arith, g.l_is))))
         ∙ drawn
+
+-- ---- a pixel as the code holds it
+pub record Seen (x y : ℤ) (f : Frame) (a : Point) : Type 0 where
+  pub x_in : InRange x
+  pub y_in : InRange y
+  pub along : a.x ≡ cond f.steep (offset_of y) (offset_of x)
+  pub across : a.y ≡ cond f.steep (offset_of x) (offset_of y)
+
+pub seen : {n : Line} {f : Frame} {x y : ℤ} {p a : Point} → Framed n f → SFits w16 x → SFits w16 y → in_range x ≡ true → in_range y ≡ true
+    → p ≡ point_of (to_z w16 (of_z w16 x)) (to_z w16 (of_z w16 y)) → (a.x ≡ cond f.steep p.y p.x) × (a.y ≡ cond f.steep p.x p.y) → Seen x y f a
+seen g fx fy hx hy e t =
+    let k = rw (point_kept fx fy e) at t in
+    record { x_in = in_range_lem _ hx; y_in = in_range_lem _ hy; along = k.0; across = k.1 }
+
+module _ {n : Line} {f : Frame} {x y : ℤ} {a : Point} (g : Framed n f) (s : Seen x y f a) where
+  pub row_near : a.y ≤ offset_most
+  row_near = rw s.across (across_le g s.x_in s.y_in)
+
+  pub seen-outside : (is_le (nat_cmp f.x a.x) ≡ false) ⊎ (is_lt (nat_cmp a.x (f.x + f.l)) ≡ false) → 0 ≡ drawn_n (line n) x y
+  seen-outside (inl h) = let k : a.x < f.x = grind (arith, nat_tests) in drawn-left g s.x_in s.y_in (rw s.along at k)
+  seen-outside (inr h) = let k : f.x + f.l ≤ a.x = grind (arith, nat_tests) in drawn-right g s.x_in s.y_in (rw s.along at k)
+
+  pub seen-inside : (is_le (nat_cmp f.x a.x) ≡ true) × (is_lt (nat_cmp a.x (f.x + f.l)) ≡ true) → (f.x ≤ a.x) × (a.x < f.x + f.l)
+  seen-inside h = (grind (arith, nat_tests), grind (arith, nat_tests))

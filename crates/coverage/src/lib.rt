@@ -5,13 +5,14 @@ ghost use Rattle.std.specs.Prelude.{◌≡◌, true, cond};
 ghost use Rattle.numbers.specs.Coordinate.{in_range};
 ghost use Rattle.limits.specs.Limits.{shape_refusal};
 ghost use Rattle.limits.specs.Refusal.{told, numbered};
-ghost use Rattle.shapes.specs.declared.Shape.TheVariants.{Line as asLine, Disc as asDisc, Ring as asRing, Triangle as asTriangle};
+ghost use Rattle.shapes.specs.declared.Shape.TheVariants.{Line as asLine, Disc as asDisc, Ring as asRing};
 ghost use Rattle.coverage.specs.Coverage.{query_refusal, ratio_of, queried};
 
 use limits::{RADIUS_MOST, Refusal, check_shape};
 use numbers::OFFSET_MOST;
 pub use numbers::Ratio;
-use shapes::{Disc, Line, Point, Ring, Shape, Triangle};
+use shapes::{Disc, Line, Point, Ring, Shape};
+use sides::triangle_cover;
 
 // A pixel out of range has the refusal of a shape out of range, which is tried first.
 fn check_query(shape: Shape, x: i16, y: i16) -> Result<(), Refusal>
@@ -40,10 +41,7 @@ fn line_ratio(line: Line, x: i16, y: i16) -> Ratio
     let d = bands::whole_of(line.exact, f.l, f.s);
     let p = Point::new(x, y);
     let a = turned(f.steep, p);
-    if a.x < f.x {
-        return Ratio { n: 0, d };
-    }
-    if f.x + f.l <= a.x {
+    if !(f.x..f.x + f.l).contains(&a.x) {
         return Ratio { n: 0, d };
     }
     let c = bands::crossing_at(f.l, f.s, a.x - f.x);
@@ -82,15 +80,8 @@ fn ring_ratio(ring: Ring, x: i16, y: i16) -> Ratio
     }
 }
 
-// The coverage of pixel (x, y) by a triangle.
-fn triangle_ratio(triangle: Triangle, x: i16, y: i16) -> Ratio
-    requires { (shape_refusal (asTriangle triangle) ≡ 0) × (in_range x ≡ true) × (in_range y ≡ true) }
-    ensures { result ≡ ratio_of (asTriangle triangle) x y }
-{
-    sides::triangle_cover(triangle, x, y)
-}
-
 // The coverage of pixel (x, y) by a shape, n and d as its rule gives them.
+#[tactic(auto, unfolding(crate::specs::Coverage::rules_of))]
 pub fn coverage(shape: Shape, x: i16, y: i16) -> Result<Ratio, Refusal>
     ensures { numbered result ≡ queried shape x y }
 {
@@ -99,6 +90,6 @@ pub fn coverage(shape: Shape, x: i16, y: i16) -> Result<Ratio, Refusal>
         Shape::Line(line) => Ok(line_ratio(line, x, y)),
         Shape::Disc(disc) => Ok(disc_ratio(disc, x, y)),
         Shape::Ring(ring) => Ok(ring_ratio(ring, x, y)),
-        Shape::Triangle(triangle) => Ok(triangle_ratio(triangle, x, y)),
+        Shape::Triangle(triangle) => Ok(triangle_cover(triangle, x, y)),
     }
 }

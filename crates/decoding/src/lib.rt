@@ -106,12 +106,15 @@ pub fn decode(list: &[u8]) -> Record
     requires { Whole list.now }
     ensures { result ≡ record_at list.now }
 {
-    match Kind::try_from(list[0]).unwrap() {
+    let kind = Kind::try_from(list[0]).unwrap();
+    match kind {
         Kind::End => Record::End,
         Kind::Clip => Record::Setting(Setting::Clip(clip_at(list))),
         Kind::Level => Record::Setting(Setting::Level(list[1])),
-        Kind::ExactLine => Record::Shape(Shape::Line(line_at(true, list))),
-        Kind::ApproximateLine => Record::Shape(Shape::Line(line_at(false, list))),
+        // One arm for both: with an arm each the check of a list was slower.
+        Kind::ExactLine | Kind::ApproximateLine => {
+            Record::Shape(Shape::Line(line_at(kind == Kind::ExactLine, list)))
+        }
         Kind::Disc => Record::Shape(Shape::Disc(disc_at(false, list))),
         Kind::Ring => Record::Shape(Shape::Ring(ring_at(false, list))),
         Kind::Player => Record::Setting(Setting::Player(list[1])),

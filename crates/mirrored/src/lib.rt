@@ -17,7 +17,15 @@ use rings::{Circles, Ring, Widths};
 mod pairs; // pairs.rt: pixels on both sides, blended distance by distance
 
 // Gives what of row y lies from to end away from the centre's column the ink's level; hands back how many pixels it is.
-fn fill_sides<I: Ink>(page: &mut [u8], ink: I, view: View, ring: Ring, y: usize, from: u64, end: u64) -> u64
+fn fill_sides<I: Ink>(
+    page: &mut [u8],
+    ink: I,
+    view: View,
+    ring: Ring,
+    y: usize,
+    from: u64,
+    end: u64,
+) -> u64
     requires { Lawful view (length page.old) × Sides view ring y end × (from ≤ end) }
     ensures { FilledSides (I.blends ink) (I.whole ink) view ring y from end page.old page.new result }
 {
@@ -34,10 +42,18 @@ fn fill_sides<I: Ink>(page: &mut [u8], ink: I, view: View, ring: Ring, y: usize,
 }
 
 // Draws row y, at distance b, of which the clip has all that is covered.
-pub fn draw_sides<I: Ink>(page: &mut [u8], ink: I, view: View, circles: Circles, row: Widths, b: u64, y: usize) -> u64
-    requires ready { Placed view (length page.old) circles.ring × (I.whole ink ≡ 512) × Sides view circles.ring y row.outer }
-    requires b_value { (b ≡ apart circles.ring.cy (y + origin)) × (b < circles.ring.radius) × Measured circles b row }
-    ensures { RingDrawn (I.blends ink) view circles.entry view.x0 y view.x1 (y + 1) page.old page.new result }
+pub fn draw_sides<I: Ink>(
+    page: &mut [u8],
+    ink: I,
+    view: View,
+    circles: &Circles,
+    row: Widths,
+    b: u64,
+    y: usize,
+) -> u64
+    requires ready { Placed view (length page.old) circles.now.ring × (I.whole ink ≡ 512) × Sides view circles.now.ring y row.outer }
+    requires b_value { (b ≡ apart circles.now.ring.cy (y + origin)) × (b < circles.now.ring.radius) × Measured circles.now b row }
+    ensures { RingDrawn (I.blends ink) view circles.now view.x0 y view.x1 (y + 1) page.old page.new result }
 {
     let edge = sides(page, ink, view, circles, b, y, row.whole, row.outer);
     let solid = edge + fill_sides(page, ink, view, circles.ring, y, row.inner, row.whole);
@@ -52,15 +68,15 @@ fn draw_quarters<I: Ink>(
     page: &mut [u8],
     ink: I,
     view: View,
-    circles: Circles,
+    circles: &Circles,
     row: Widths,
     b: u64,
     y: usize,
     z: usize,
 ) -> u64
-    requires ready { Placed view (length page.old) circles.ring × (I.whole ink ≡ 512) × Quarters view circles.ring b y z row.outer }
-    requires b_lt_radius { (b < circles.ring.radius) × Measured circles b row }
-    ensures { QuartersDrawn (I.blends ink) view circles.entry 0 b circles.entry.ring.radius (b + 1) page.old page.new result }
+    requires ready { Placed view (length page.old) circles.now.ring × (I.whole ink ≡ 512) × Quarters view circles.now.ring b y z row.outer }
+    requires b_lt_radius { (b < circles.now.ring.radius) × Measured circles.now b row }
+    ensures { QuartersDrawn (I.blends ink) view circles.now 0 b circles.now.ring.radius (b + 1) page.old page.new result }
 {
     let edge = quarters(page, ink, view, circles, b, y, z, row.whole, row.outer);
     let lower = fill_sides(page, ink, view, circles.ring, y, row.inner, row.whole);
@@ -73,9 +89,9 @@ fn draw_quarters<I: Ink>(
 }
 
 // Draws the two rows at distance b of a ring that the clip has whole.
-fn draw_distance<I: Ink>(page: &mut [u8], ink: I, view: View, circles: Circles, b: u64) -> u64
-    requires { Placed view (length page.old) circles.ring × (I.whole ink ≡ 512) × Enclosed view circles.ring × (b < circles.ring.radius) }
-    ensures { QuartersDrawn (I.blends ink) view circles.entry 0 b circles.entry.ring.radius (b + 1) page.old page.new result }
+fn draw_distance<I: Ink>(page: &mut [u8], ink: I, view: View, circles: &Circles, b: u64) -> u64
+    requires { Placed view (length page.old) circles.now.ring × (I.whole ink ≡ 512) × Enclosed view circles.now.ring × (b < circles.now.ring.radius) }
+    ensures { QuartersDrawn (I.blends ink) view circles.now 0 b circles.now.ring.radius (b + 1) page.old page.new result }
 {
     let row = circles.measure(b);
     let y = (circles.ring.cy + b - ORIGIN) as usize;
@@ -84,9 +100,9 @@ fn draw_distance<I: Ink>(page: &mut [u8], ink: I, view: View, circles: Circles, 
 }
 
 // Draws a ring that the clip has whole, from the centre outwards, two rows at a time.
-pub fn draw_enclosed<I: Ink>(page: &mut [u8], ink: I, view: View, circles: Circles) -> u64
-    requires { Placed view (length page.old) circles.ring × (I.whole ink ≡ 512) × Enclosed view circles.ring }
-    ensures { RingDrawn (I.blends ink) view circles.entry view.x0 view.y0 view.x1 view.y1 page.old page.new result }
+pub fn draw_enclosed<I: Ink>(page: &mut [u8], ink: I, view: View, circles: &Circles) -> u64
+    requires { Placed view (length page.old) circles.now.ring × (I.whole ink ≡ 512) × Enclosed view circles.now.ring }
+    ensures { RingDrawn (I.blends ink) view circles.now view.x0 view.y0 view.x1 view.y1 page.old page.new result }
 {
     let mut touched: u64 = 0;
     for b in 0..circles.ring.radius {

@@ -27,15 +27,15 @@ pub(crate) fn sides<I: Ink>(
     page: &mut [u8],
     ink: I,
     view: View,
-    circles: Circles,
+    circles: &Circles,
     b: u64,
     y: usize,
     from: u64,
     end: u64,
 ) -> u64
-    requires ready { Lawful view (length page.old) × (I.whole ink ≡ 512) × Sides view circles.ring y end × (from ≤ end) }
-    requires b_value { (b ≡ apart circles.ring.cy (y + origin)) × (b < circles.ring.radius) × (end ≤ circles.ring.radius) }
-    ensures { SidesDrawn (I.blends ink) view circles.entry y from end page.old page.new result }
+    requires ready { Lawful view (length page.old) × (I.whole ink ≡ 512) × Sides view circles.now.ring y end × (from ≤ end) }
+    requires b_value { (b ≡ apart circles.now.ring.cy (y + origin)) × (b < circles.now.ring.radius) × (end ≤ circles.now.ring.radius) }
+    ensures { SidesDrawn (I.blends ink) view circles.now y from end page.old page.new result }
 {
     let mut touched: u64 = 0;
     for a in from..end {
@@ -51,16 +51,16 @@ pub(crate) fn quarters<I: Ink>(
     page: &mut [u8],
     ink: I,
     view: View,
-    circles: Circles,
+    circles: &Circles,
     b: u64,
     y: usize,
     z: usize,
     from: u64,
     end: u64,
 ) -> u64
-    requires ready { Lawful view (length page.old) × (I.whole ink ≡ 512) × Quarters view circles.ring b y z end × (from ≤ end) }
-    requires b_lt_radius { (b < circles.ring.radius) × (end ≤ circles.ring.radius) }
-    ensures { QuartersDrawn (I.blends ink) view circles.entry from b end (b + 1) page.old page.new result }
+    requires ready { Lawful view (length page.old) × (I.whole ink ≡ 512) × Quarters view circles.now.ring b y z end × (from ≤ end) }
+    requires b_lt_radius { (b < circles.now.ring.radius) × (end ≤ circles.now.ring.radius) }
+    ensures { QuartersDrawn (I.blends ink) view circles.now from b end (b + 1) page.old page.new result }
 {
     let mut touched: u64 = 0;
     for a in from..end {

@@ -1,9 +1,8 @@
 // Whole-number arithmetic that the other crates share.
 #![tactic(auto)]
 
-ghost use Rattle.std.specs.Prelude.{◌≡◌, [], ◌∷◌, ◌-◌, ◌≤◌, ◌<◌, min, max, T};
-ghost use Rattle.std.specs.Int.Signed.{le_z};
-ghost use Rattle.numbers.specs.inner.Order.{dist, Product, Span, Remainder};
+ghost use Rattle.std.specs.Prelude.{◌≡◌, [], ◌∷◌, ◌-◌, ◌≤◌, min, max};
+ghost use Rattle.numbers.specs.inner.Order.{dist, Product, Span};
 ghost use Rattle.numbers.specs.Coordinate.{in_range, bits_of, signed_of, word_of, bytes_of};
 ghost use Rattle.numbers.specs.inner.Offset.{offset_of};
 
@@ -26,14 +25,6 @@ pub fn product(a: u64, b: u64) -> u64
     ensures { Product a b result }
 {
     a * b
-}
-
-// What is left of n by m.
-pub fn remainder(n: u64, m: u64) -> u64
-    requires { 0 < m }
-    ensures { Remainder n m result }
-{
-    n % m
 }
 
 pub fn lesser(a: u64, b: u64) -> u64
@@ -77,6 +68,7 @@ fn in_range(c: i16) -> bool
 }
 
 // The coordinate counted from -4,096, and one above the greatest offset for a number out of range: the geometry is unsigned from here on.
+// An Option is no plainer: a shape is placed before it is tried, and a line would be four of them.
 pub fn offset(c: i16) -> u64
     ensures { result ≡ offset_of c }
 {

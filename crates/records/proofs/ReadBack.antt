@@ -1,13 +1,5 @@
 -- A record that is written reads back as the same record.
-use mathlib.Core.Path.{◌≡◌, refl, sym, ◌∙◌, ap}
-use mathlib.Core.Bool.{Bool, true, false, cond}
-use mathlib.Core.List.{List, [], ◌∷◌, ◌++◌, append_assoc}
-use Prim.Native.Nat.{ℕ, ◌+◌, ◌/◌, ◌%◌, ◌≤◌}
-use native.Mathlib.Omega.{arith}
-use borrow.Author.Tests.{le-ltb, ne_eqb}
-use lib.IntN.{ℤ}
-use lib.ListN.{length, take, drop, length-append}
-use lib.Seq.{drop_at, length-take-le}
+use Rattle.std.proofs.Common.{◌≡◌, refl, sym, ◌∙◌, ap, Bool, true, false, cond, List, [], ◌∷◌, ◌++◌, append_assoc, ℕ, ◌+◌, ◌/◌, ◌%◌, ◌≤◌, arith, le-ltb, ne_eqb, ℤ, length, take, drop, length-append, drop_at, length-take-le, Ok}
 use Rattle.numbers.specs.Coordinate.{bits_of, signed_of, word_of}
 use Rattle.numbers.proofs.Integer.{sfits_diff}
 use Rattle.numbers.proofs.Coordinate.{InRange, signed_bits, word_bytes}
@@ -26,7 +18,6 @@ use Rattle.format.specs.Format.{off_kind, kind_of, fields_of, record_bytes, coor
 use Rattle.records.specs.Read.{read_refusal, reading_of, past_record}
 use Rattle.records.specs.Write.{put_at, record_write_refusal, record_list}
 use Rattle.records.specs.declared.write.Cursor.{Cursor}
-use Rattle.std.specs.Prelude.{Ok}
 use Rattle.format.proofs.Bytes.{record_size_lem}
 use Rattle.limits.proofs.Limits.{LawfulLine, line_lawful, LawfulCircle, disc_lawful, ring_lawful}
 use Rattle.limits.proofs.Triangles.{CornersIn, triangle_lawful}

@@ -1,10 +1,5 @@
 -- What is known of a record in which no refusal is found.
-use Rattle.std.proofs.Common.{◌≡◌, refl, sym, ◌∙◌, ap, Bool, true, false, cond, List, [], ◌∷◌}
-use Prim.Native.Nat.{ℕ}
-use native.Mathlib.Omega.{arith}
-use borrow.Author.Tests.{ltb-false}
-use lib.Dec.{ltb, eqb}
-use lib.ListN.{length}
+use Rattle.std.proofs.Common.{◌≡◌, refl, sym, ◌∙◌, ap, Bool, true, false, cond, List, [], ◌∷◌, ℕ, arith, ltb-false, ltb, eqb, length}
 use Rattle.limits.specs.Limits.{first, tried, basis_refusal, refusal_within, radius_room, record_refusal}
 use Rattle.limits.proofs.Limits.{clear, tried_clear, disc_lawful, ring_lawful}
 use Rattle.shapes.specs.declared.Shape.{Shape}

@@ -1,14 +1,6 @@
 -- The two outcomes of a write, and what is known of a record that was written.
-use mathlib.Core.Path.{◌≡◌, refl, ◌∙◌, ap}
-use mathlib.Core.Bool.{false, ◌||◌}
-use mathlib.Core.Logic.{◌⊎◌, inl, inr}
-use mathlib.Core.List.{List, ◌++◌}
-use Prim.Native.Nat.{ℕ, ◌+◌, ◌-◌, ◌≤◌, ◌<◌, min}
-use native.Mathlib.Omega.{arith}
-use borrow.Author.Tests.{lt-ltb, le-ltb, ltb-false}
-use lib.Dec.{ltb}
-use lib.ListN.{length, take, drop, replicate, length-append, length-drop}
-use lib.Seq.{paste, take-append_seam, length-take-le}
+use Rattle.std.proofs.Common.{◌≡◌, refl, ◌∙◌, ap, false, ◌||◌, ◌⊎◌, inl, inr, List, ◌++◌, ℕ, ◌+◌, ◌-◌, ◌≤◌, ◌<◌, min, arith, lt-ltb, le-ltb, ltb-false, ltb, length, take, drop, replicate, length-append, length-drop, length-take-le, Ok}
+use Rattle.std.proofs.Math.Seq.{paste, take-append_seam}
 use Rattle.numbers.proofs.Order.{lt_or_le}
 use Rattle.limits.specs.Limits.{basis_refusal, record_refusal}
 use Rattle.shapes.specs.declared.Record.{Record}
@@ -17,7 +9,6 @@ use Rattle.format.specs.inner.Record.{record_most, padded}
 use Rattle.records.specs.Write.{put_at, too_few, header_write_refusal, record_write_refusal, behind_header, behind_record, header_written, header_list, record_written, record_list}
 use Rattle.format.specs.declared.Header.{Header}
 use Rattle.records.specs.declared.write.Cursor.{Cursor}
-use Rattle.std.specs.Prelude.{Ok}
 use Rattle.limits.proofs.Limits.{clear, tried_clear, or_clear}
 
 -- the first bytes of an array put into a list

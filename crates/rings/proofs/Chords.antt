@@ -1,9 +1,6 @@
 -- Laws of the chord rule, for any heights that fall.
-use mathlib.Core.Path.{◌≡◌}
-use mathlib.Core.Logic.{◌⊎◌, inl, inr, ⊎_elim}
-use Prim.Native.Nat.{ℕ, ◌+◌, ◌-◌, ◌*◌, ◌≤◌, ◌<◌, min, max}
+use Rattle.std.proofs.Common.{◌≡◌, ℕ, ◌+◌, ◌-◌, ◌*◌, ◌≤◌, ◌<◌, min, max, ◌⊎◌, inl, inr, ⊎_elim, arith}
 use native.Mathlib.Nat.{add-le-add}
-use native.Mathlib.Omega.{arith}
 use Rattle.numbers.proofs.Order.{lt_or_le}
 use Rattle.chords.specs.Circle.{chord, chords}
 use Rattle.chords.proofs.Chord.{chords_rise, chords_le}

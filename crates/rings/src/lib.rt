@@ -51,6 +51,7 @@ fn height(hs: &[u32], k: u64) -> u64
 }
 
 // The coverage over 512 by a disc, at the distances a and b.
+#[tactic(auto, unfolding(chords::specs::Circle::chords, chords::specs::Circle::chord))]
 fn covered(hs: &[u32], a: u64, b: u64) -> u64
     requires { (a ≤ radius_most) × (b ≤ radius_most) × (b + 1 < length hs.now) }
     ensures { (result ≡ chords (at hs.now) a b) × (result ≤ 512) }
@@ -109,9 +110,10 @@ impl Circles<'_> {
     ghost use Rattle.rings.specs.inner.Circles.{cover, Measured};
 
     // The coverage over 512 at the distances a and b: a pixel past the hole needs no heights of the inner circle.
-    pub fn covered(self, a: u64, b: u64) -> u64
-        requires { (a ≤ radius_most) × (b < self.ring.radius) }
-        ensures { (result ≡ cover self.entry a b) × (result ≤ 512) }
+    #[tactic(auto, using(chords::proofs::Chord::chords_rise, crate::proofs::Chords::chords_far), unfolding(crate::specs::inner::Heights::between))]
+    pub fn covered(&self, a: u64, b: u64) -> u64
+        requires { (a ≤ radius_most) × (b < self.now.ring.radius) }
+        ensures { (result ≡ cover self.now a b) × (result ≤ 512) }
     {
         let n = covered(self.outer, a, b);
         if a.max(b) < self.ring.hole {
@@ -121,10 +123,11 @@ impl Circles<'_> {
         }
     }
 
-    // Where the row at distance b changes.
-    pub fn measure(self, b: u64) -> Widths
-        requires { b < self.ring.radius }
-        ensures { Measured self.entry b result }
+    // Where the row at distance b changes. It stands in line: a call in each row would be slower.
+    #[inline(always)]
+    pub fn measure(&self, b: u64) -> Widths
+        requires { b < self.now.ring.radius }
+        ensures { Measured self.now b result }
     {
         let whole = whole_width(self.outer, b);
         let end = covered_width(self.outer, self.ring.radius, b);

@@ -6,6 +6,7 @@ use Prim.Native.Nat.{ℕ, ◌+◌, ◌*◌, ◌≤◌, ◌<◌}
 use native.Mathlib.Omega.{arith}
 use borrow.Author.Tests.{le-ltb}
 use lib.IntN.{pos}
+use Rattle.std.specs.Prelude.{Ok}
 use lib.ListN.{length, get_or, replicate}
 use Rattle.numbers.specs.Sum.{total}
 use Rattle.shapes.specs.Span.{span_x, span_y, longer}
@@ -24,11 +25,10 @@ use Rattle.format.specs.declared.Header.{Header}
 use Rattle.settings.specs.Settings.{start, in_force}
 use Rattle.settings.specs.Drawing.{drawing_of, drawings_from}
 use Rattle.lists.specs.List.{Records, accepted, header_refusal, page_tests, records_from, records_of, checked_as, checked_without_page}
-use Rattle.lists.specs.declared.check.Checked.TheVariants.{Accepted}
 use Rattle.drawing.specs.Touches.{touches_at}
 use Rattle.drawing.specs.Counts.{own_of}
 use Rattle.drawing.specs.Claim.{drawings_by, page_by, ClaimBy, Claim}
-use Rattle.drawing.specs.declared.Outcome.{Outcome}
+use Rattle.drawing.specs.Outcome.{Outcome}
 use Rattle.drawing.proofs.Bytes.{byte-is}
 use Rattle.squeezed.specs.Squeeze.{all_bytes, list_bytes}
 use Rattle.squeezed.proofs.Lawful.{last}
@@ -45,7 +45,7 @@ module _ (d : Header) (basis : basis_refusal (basis_of d) ≡ 0) where
   unfolding header_bytes list_bytes all_bytes kind_of fields_of
   alone_records tests passed = list_back d (end ∷ []) basis (omega arith) tests passed last
 
-  alone-accepted : checked_without_page (alone d) ≡ Accepted d 0
+  alone-accepted : checked_without_page (alone d) ≡ Ok (record { header = d; ceiling = 0 })
   unfolding list_bytes all_bytes kind_of fields_of drawings_from drawing_of total
   alone-accepted = ap₂ checked_as (header_back d (end ∷ [])) (alone_records [] refl)
 
@@ -70,7 +70,7 @@ module _ (d : Header) (basis : basis_refusal (basis_of d) ≡ 0) where
     )
 
 -- ---- the printed list
-printed-ceiling : checked_without_page printed ≡ Accepted (record { version = 1; w = 4; h = 3; background = 0 }) 6
+printed-ceiling : checked_without_page printed ≡ Ok (record { header = record { version = 1; w = 4; h = 3; background = 0 }; ceiling = 6 })
 unfolding size_refusal basis_refusal off_size refusal_within off_range refusals_of record_refusal kind_size decoded read_refusal header_refusal records_from records_of
     start in_force drawing_of drawings_from total span_x span_y longer shape_ceiling clip_pixels ceiling_under
 printed-ceiling = refl

@@ -10,7 +10,7 @@ use Rattle.format.specs.Format.{header_at}
 use Rattle.settings.specs.Ceiling.{ceiling}
 use Rattle.lists.specs.List.{page_records}
 use Rattle.drawing.specs.Claim.{drawings_by, Claim}
-use Rattle.drawing.specs.declared.Outcome.{Outcome}
+use Rattle.drawing.specs.Outcome.{Outcome}
 
 pub record Ceilings : Type 0 where
   -- no lawful shape touches more pixels of a page of w by h than it counts under the clip (R6.6)

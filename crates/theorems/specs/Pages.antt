@@ -13,7 +13,7 @@ use Rattle.drawing.specs.Touches.{touches_at}
 use Rattle.drawing.specs.Claim.{Claim}
 use Rattle.drawing.specs.Codes.{CodesClaim}
 use Rattle.drawing.specs.Cover.{Covering, Uncovered}
-use Rattle.drawing.specs.declared.Outcome.{Outcome}
+use Rattle.drawing.specs.Outcome.{Outcome}
 
 pub record Pages : Type 0 where
   -- where a drawing c covers a pixel whole, inside its clip, the bound of the pixel is that of the drawings behind c alone (R10.4)

@@ -1,5 +1,5 @@
 -- The worked strokes and lists at the end of docs/RULES.md: each row of the table, and each sentence below it, is a field.
-use Rattle.std.specs.Prelude.{Bool, true, false, List, [], ◌∷◌, ◌++◌, ◌≡◌, ℕ, ◌+◌, ◌*◌, ◌-◌, ◌≤◌, ◌<◌, ℤ, pos, negsuc, length, get_or, replicate}
+use Rattle.std.specs.Prelude.{Ok, Bool, true, false, List, [], ◌∷◌, ◌++◌, ◌≡◌, ℕ, ◌+◌, ◌*◌, ◌-◌, ◌≤◌, ◌<◌, ℤ, pos, negsuc, length, get_or, replicate}
 use Rattle.limits.specs.Limits.{shape_refusal, basis_refusal}
 use Rattle.shapes.specs.declared.Shape.{Shape}
 use Rattle.shapes.specs.declared.Shape.TheVariants.{Line as line, Disc as disc, Triangle as triangle}
@@ -11,9 +11,8 @@ use Rattle.lights.specs.Codes.{codes}
 use Rattle.format.specs.Format.{basis_of, header_bytes}
 use Rattle.format.specs.declared.Header.{Header}
 use Rattle.lists.specs.List.{checked_without_page}
-use Rattle.lists.specs.declared.check.Checked.TheVariants.{Accepted}
 use Rattle.drawing.specs.Claim.{Claim}
-use Rattle.drawing.specs.declared.Outcome.{Outcome}
+use Rattle.drawing.specs.Outcome.{Outcome}
 
 -- a shape has n over d at pixel (x, y)
 abbrev pub Has : Shape → ℤ → ℤ → ℕ → ℕ → Type 0
@@ -87,9 +86,9 @@ pub record Worked : Type 0 where
   pub radius-most : (shape_refusal (disc_of 1023) ≡ 0) × (shape_refusal (disc_of 1024) ≡ 33)
   pub coordinate_most : (shape_refusal (line_to true 4095 0) ≡ 0) × (shape_refusal (line_to true 4096 0) ≡ 7)
   -- a header and an end record alone have a ceiling of 0
-  pub alone-accepted : (d : Header) → basis_refusal (basis_of d) ≡ 0 → checked_without_page (alone d) ≡ Accepted d 0
+  pub alone-accepted : (d : Header) → basis_refusal (basis_of d) ≡ 0 → checked_without_page (alone d) ≡ Ok (record { header = d; ceiling = 0 })
   -- and give the background and eight counts of 0
   pub alone-drawn : (lights l : List ℕ) (d : Header) (r : Outcome) (m : List ℕ) → basis_refusal (basis_of d) ≡ 0 → d.w * d.h ≤ length l → fit lights ≡ true
       → Claim lights (alone d) l r m → (r.touched ≡ replicate 8 0) × ((x y : ℕ) → x < d.w → y < d.h → get_or m (y * d.w + x) 0 ≡ d.background)
   -- the line of the printed list has l = 2, and so its ceiling is 6
-  pub printed-ceiling : checked_without_page printed ≡ Accepted (record { version = 1; w = 4; h = 3; background = 0 }) 6
+  pub printed-ceiling : checked_without_page printed ≡ Ok (record { header = record { version = 1; w = 4; h = 3; background = 0 }; ceiling = 6 })

@@ -9,7 +9,7 @@ use Rattle.drawing.specs.Touches.{touches_at}
 use Rattle.drawing.specs.Claim.{Claim}
 use Rattle.drawing.specs.Zone.{Zone, OnPage, zone_margin, ZoneWithin}
 use Rattle.drawing.specs.Margin.{margin_read, zone_read}
-use Rattle.drawing.specs.declared.Outcome.{Outcome}
+use Rattle.drawing.specs.Outcome.{Outcome}
 
 pub record Zones : Type 0 where
   -- the light of a zone is no further from its exact blend than the sum of the bounds of its pixels (R10.5)

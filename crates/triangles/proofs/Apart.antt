@@ -1,14 +1,14 @@
 -- A row that two cuts leave in stretches, put together.
-use Rattle.std.proofs.Common.{◌≡◌, refl, List, ℕ, ◌+◌, ◌*◌, ◌≤◌, ◌<◌, min, max, length, arith}
+use Rattle.std.proofs.Common.{◌≡◌, refl, List, ℕ, ◌+◌, ◌*◌, ◌≤◌, ◌<◌, min, max, arith}
 use mathlib.Core.Logic.{⊎_elim}
 use Rattle.numbers.specs.inner.Offset.{origin}
 use Rattle.page.specs.inner.Paint.{clamped, Lawful, Filled}
 use Rattle.page.specs.declared.View.{View}
 use Rattle.page.proofs.Clamp.{clamped_low, clamped_high, clamped-rises, before-clamped, from_clamped, between-clamped}
-use Rattle.page.proofs.Drawn.{drawn_beside, drawn_full, drawn-row, drawn-length, drawn-count}
+use Rattle.page.proofs.Drawn.{drawn_beside, drawn_full, drawn-row, drawn-count}
 use Rattle.page.proofs.Same.{drawn-alike}
-use Rattle.triangles.specs.inner.Side.{left_of, CutFit}
-use Rattle.triangles.specs.inner.Row.{right_of, between_of, RowDrawn, Stretch, Alike, Ready}
+use Rattle.triangles.specs.inner.Side.{left_of}
+use Rattle.triangles.specs.inner.Row.{right_of, between_of, RowDrawn, Alike, Ready}
 use Rattle.triangles.specs.declared.side.Cut.{Cut}
 use Rattle.triangles.proofs.Between.{whole_both, equal_left, equal_right, whole-between, none_before, none-past}
 
@@ -22,16 +22,6 @@ module _ {view : View} {size : ℕ} {a b : Cut} {e e' y : ℕ} (ready : Ready vi
   -- a column of the clip
   abbrev clamped_to : ℕ → ℕ
   clamped_to c = clamped view.x0 view.x1 c
-
-  -- columns from c to d of the clip, where c is not past d
-  pub stretch_on : {p q : ℕ} (c d : ℕ) → p ≡ clamped_to c → q ≡ clamped_to d → c ≤ d → Stretch view size y p q
-  stretch_on c d ep eq h =
-      record {
-        lawful = ready.lawful;
-        row = ready.row;
-        order = rw (ep, eq) (clamped-rises view.x0 view.x1 c d h);
-        last = rw eq (omega (arith, clamped_high view.x0 view.x1 d, ready.lawful.x-most));
-      }
 
   -- a row that has nothing before offset c, and nothing from offset d on
   row_on : {ink : ℕ → ℕ → ℕ} {l m : List ℕ} {t : ℕ} (c d : ℕ) → ((z : ℕ) → z < c → between_of a b z ≡ 0) → ((z : ℕ) → d ≤ z → between_of a b z ≡ 0)
@@ -113,17 +103,6 @@ module _ {view : View} {size : ℕ} {a b : Cut} {e e' y : ℕ} (ready : Ready vi
         (inside (rw (eb, ed, ed') at leaves) (rw (eq, er) at middle)))
         (right_edge second (rw (eb, ed, ed') at alike') (rw (er, es) at right)))
 
--- ---- a page that was drawn on is as long as before
-pub stretch_after : {view : View} {size size' y from end : ℕ} → size' ≡ size → Stretch view size y from end → Stretch view size' y from end
-stretch_after e s = rw e s
-
 module _ (view : View) (v y from end : ℕ) {l m : List ℕ} {t : ℕ} (f : Filled view.w view.h v y from end l m t) where
-  pub filled-length : length m ≡ length l
-  filled-length = drawn-length (f (λ _ _. v) 1 (omega arith) (λ u. refl))
-
   pub filled-count : {size : ℕ} → Lawful view size → t ≤ 1048576
   filled-count law = drawn-count law (f (λ _ _. v) 1 (omega arith) (λ u. refl))
-
--- the first column of two cuts is not past the last
-pub spans : (a b : Cut) {u v : ℕ} → CutFit a → u ≡ min a.column b.column → v ≡ max a.end b.end → u ≤ v
-spans a b f e g = omega (arith, f.order)

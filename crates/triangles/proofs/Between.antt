@@ -1,6 +1,6 @@
 -- What lies between two cuts of a row.
-use mathlib.Core.Path.{◌≡◌, ◌∙◌, ap}
-use Prim.Native.Nat.{ℕ, ◌+◌, ◌-◌, ◌*◌, ◌^◌, ◌≤◌, ◌<◌}
+use mathlib.Core.Path.{◌≡◌, ap}
+use Prim.Native.Nat.{ℕ, ◌+◌, ◌-◌, ◌*◌, ◌≤◌, ◌<◌}
 use native.Mathlib.Nat.{mul-le-mul, mul-le-mul_left, mul-le-mul_right}
 use native.Mathlib.Omega.{arith}
 use Rattle.numbers.specs.inner.Equal.{Equal}
@@ -23,19 +23,8 @@ whole_both a b f g =
     let q : 1 ≤ b.d = whole-some b g in
     mul-le-mul p q
 
-pub both_most : (a b : Cut) → CutFit a → CutFit b → a.d * b.d ≤ 2 ^ 30
-both_most a b f g = omega (arith, mul-le-mul f.whole-most g.whole-most)
-
 pub between_le : (a b : Cut) (z : ℕ) → CutFit a → CutFit b → between_of a b z ≤ a.d * b.d
 between_le a b z f g = omega (arith, mul-le-mul_right b.d (left_le a z f), mul-le-mul_left a.d (left_le b z g))
-
--- as `between` makes it
-pub found_between : (a b : Cut) (z : ℕ) {p q u w n : ℕ} → CutFit a → CutFit b → p ≡ left_of a z → q ≡ left_of b z → u ≡ p * b.d → w ≡ q * a.d
-    → n ≡ dist u w
-    → (n ≡ between_of a b z) × (n ≤ a.d * b.d)
-found_between a b z {n = n} f g e h k l r =
-    let t : n ≡ between_of a b z = r ∙ rw (k, l, e, h) in
-    (t, omega (arith, between_le a b z f g))
 
 -- ---- a leaves off before b begins
 module _ (a b : Cut) (f : CutFit a) (g : CutFit b) (apart : a.end ≤ b.column) (z : ℕ) where

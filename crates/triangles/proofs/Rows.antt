@@ -32,7 +32,7 @@ use Rattle.sides.proofs.TwoSides.{rows-below, rows_above, rows-off}
 use Rattle.sides.proofs.Placed.{cover_placed, whole-placed}
 use Rattle.coverage.specs.Coverage.{rules_of, drawn_d}
 use Rattle.coverage.specs.inner.OnPage.{shape_on}
-use Rattle.triangles.specs.inner.Side.{left_on, SideIs, CutOf}
+use Rattle.triangles.specs.inner.Side.{left_on, SideFit, SideIs, CutOf}
 use Rattle.triangles.specs.inner.Row.{between_of, between_on, beside_on, Alike, RowDrawn, RowsDrawn, Between, Crossed}
 use Rattle.triangles.specs.inner.Order.{Sorted}
 use Rattle.triangles.specs.declared.side.Side.{Side}
@@ -121,6 +121,10 @@ beside {xa} {ya} {xb} {yb} lights level view s t {from} {end} i b d =
 -- rows of the page that a side crosses lie between its ends
 pub crossed : {xa ya xb yb : ℕ} {view : View} {s : Side} {from end : ℕ} → SideIs xa ya xb yb s → end ≤ view.h → Between ya yb from end → Crossed view s from end
 crossed i h b = record { inside = h; rows = rw (i.last, i.first) b }
+
+pub crosses : {view : View} {s : Side} {from end y : ℕ} → SideFit s → Crossed view s from end → from ≤ y → y < end
+    → SideFit s × (s.y ≤ y + origin) × (y + origin < s.y + s.h)
+crosses {y = y} fit c p q = (fit, c.rows.below y p q, c.rows.above y p q)
 
 -- the shares of two sides that cross a row are its coverage
 module _ (xa ya xb yb xc yc xd yd x y : ℕ) (p : ya ≤ y) (q : y < yb) (r : yc ≤ y) (s : y < yd) where

@@ -119,7 +119,7 @@ module _ (h low high : ℕ) (some : 0 < h) (rises : low ≤ high) where
       let b = lt-div-mul-add {a = high + h - 1} {b = h} some in
       le_of_mul-le-mul_left {k = h} (omega arith) some
 
--- ---- as `side_of` makes it
+-- ---- as `Side::new` makes it
 pub found_pos : {h d : ℕ} (k : ℕ) → d ≡ by_zero h 1 (under_d h k) → 0 < h → 0 < d
 found_pos {h} {d} k e p = omega (arith, e ∙ whole_wide h k p, whole_pos h k p)
 
@@ -146,14 +146,7 @@ module _ (xa ya xb yb : ℕ) (n : Near xa ya xb yb) (rises : ya < yb) {h foot r 
         over = (whole_is xa ya xb yb n rises eh ef (rw (er, el) at ed)).0;
       }
 
--- what two sides are over together
-pub sides_both : (s t : Side) → SideFit s → SideFit t → (0 < s.d * t.d) × (s.d * t.d ≤ 2 ^ 30)
-sides_both s t f g =
-    let p : 1 ≤ s.d = omega (arith, f.whole, whole_pos s.h (s.right + s.left) f.some) in
-    let q : 1 ≤ t.d = omega (arith, g.whole, whole_pos t.h (t.right + t.left) g.some) in
-    (mul-le-mul p q, omega (arith, mul-le-mul f.whole-most g.whole-most))
-
--- ---- as `cut_of` makes it
+-- ---- as `cut_at` makes it
 pub record Stands (s : Side) (y low high : ℕ) : Type 0 where
   pub low-is : low ≡ low_on s y
   pub high_is : high ≡ high_on s y

@@ -11,11 +11,11 @@ use Rattle.circles.proofs.draw_disc.Goals as goal
 
 pub invariant_of-circle : goal.invariant_of-circle
 invariant_of-circle g c =
-    let k : LawfulCircle radius_most c.args.disc.x c.args.disc.y c.args.disc.radius = disc_lawful c.args.disc c.requires.1 in
-    let e = c.centre-c.ensures in
+    let d = c.args.disc in
+    let k : LawfulCircle radius_most d.x d.y d.radius = disc_lawful d c.requires.1 in
     record {
-      across = rw e (omega (arith, k.x_in.less));
-      down = rw e (omega (arith, k.y_in.less));
+      across = rw c.centre-c.ensures (omega (arith, k.x_in.less));
+      down = rw c.centre-c.ensures (omega (arith, k.y_in.less));
       within = omega arith;
       most = k.most;
     }
@@ -23,6 +23,5 @@ invariant_of-circle g c =
 pub returns : goal.returns
 unfolding rules_of
 returns g c =
-    let e = c.centre-c.ensures in
-    drawn-same (shape_on (asShape c.args.disc)) c.requires.0 (disc_on c.args.disc c.requires.1 e)
+    drawn-same (shape_on (asShape c.args.disc)) c.requires.0 (disc_on c.args.disc c.requires.1 c.centre-c.ensures)
     (rw c.chord_ink.ensures.blends at c.draw_between.ensures)

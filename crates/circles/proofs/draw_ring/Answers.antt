@@ -15,10 +15,9 @@ overflow_sub-between g c = (ring_lawful c.args.ring c.requires.1).most
 pub invariant_of-between : goal.invariant_of-between
 invariant_of-between g c =
     let k : LawfulRing radius_most c.args.ring = ring_lawful c.args.ring c.requires.1 in
-    let e = c.centre-c.ensures in
     record {
-      across = rw e (omega (arith, k.circle.x_in.less));
-      down = rw e (omega (arith, k.circle.y_in.less));
+      across = rw c.centre-c.ensures (omega (arith, k.circle.x_in.less));
+      down = rw c.centre-c.ensures (omega (arith, k.circle.y_in.less));
       within = omega arith;
       most = k.circle.most;
     }
@@ -26,6 +25,5 @@ invariant_of-between g c =
 pub returns : goal.returns
 unfolding rules_of
 returns g c =
-    let e = c.centre-c.ensures in
-    drawn-same (shape_on (asShape c.args.ring)) c.requires.0 (ring_on c.args.ring c.requires.1 e)
+    drawn-same (shape_on (asShape c.args.ring)) c.requires.0 (ring_on c.args.ring c.requires.1 c.centre-c.ensures)
     (rw c.chord_ink.ensures.blends at c.draw_between.ensures)

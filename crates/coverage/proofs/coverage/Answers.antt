@@ -18,7 +18,7 @@ ring_ratio-requires c =
     let q = lawful c.args.shape c.ranges.x c.ranges.y (sym (rw c.in_ok-check_query.was at c.check_query.ensures)) in
     (rw c.in-Ring.is at q.0, q.1, q.2)
 
-pub triangle_ratio-requires : goal.triangle_ratio-requires
-triangle_ratio-requires c =
+pub triangle_cover-requires : goal.triangle_cover-requires
+triangle_cover-requires c =
     let q = lawful c.args.shape c.ranges.x c.ranges.y (sym (rw c.in_ok-check_query.was at c.check_query.ensures)) in
     (rw c.in-Triangle.is at q.0, q.1, q.2)

@@ -13,12 +13,6 @@ loop-at-init g c =
     let some : c.args.columns.start < c.args.columns.end = grind (arith, nat_tests) in
     (refl, extended_none c.first-at.result c.args.page.now (walk_begins c.requires.drawable some at.0 at.1 at.2), omega (arith, at.1))
 
-pub step-at-requires : goal.step-at-requires
-step-at-requires g c =
-    let v = c.loop-at.invariant in
-    let on = goes_on c.requires.drawable c.first-at.ensures.1 v.0 v.1 c.loop-at-test.true in
-    (c.requires.walking _ _ on.0 on.1 c.loop-at-test.true).0
-
 pub loop-at-smaller : goal.loop-at-smaller
 loop-at-smaller g c =
     let v = c.loop-at.invariant in

@@ -1,5 +1,5 @@
 -- Up to the centre the two sides are one stretch; else they are two, which never meet.
-use Rattle.std.proofs.Common.{ℕ, ◌<◌, arith}
+use Rattle.std.proofs.Common.{ℕ, arith}
 use Rattle.page.proofs.Drawn.{drawn_ext, drawn_join, drawn-count}
 use Rattle.mirrored.specs.inner.Mirrored.{row_sides}
 use Rattle.mirrored.proofs.Mirrored.{filled_sides, filled-middle}

@@ -1,5 +1,5 @@
 -- Distances, and numbers with a bound.
-use Rattle.std.specs.Prelude.{◌≡◌, ℕ, ◌+◌, ◌*◌, ◌-◌, ◌%◌, ◌≤◌, ◌<◌, ℤ, nat_abs, ◌-ℤ◌}
+use Rattle.std.specs.Prelude.{◌≡◌, ℕ, ◌+◌, ◌*◌, ◌-◌, ◌≤◌, ℤ, nat_abs, ◌-ℤ◌}
 
 -- how far a and b are apart: one of the two differences is 0
 abbrev pub dist : ℕ → ℕ → ℕ
@@ -14,8 +14,3 @@ pub record Product (a b p : ℕ) : Type 0 where
 pub record Span (a b : ℤ) (r : ℕ) : Type 0 where
   pub is : r ≡ nat_abs (b -ℤ a)
   pub most : r ≤ 65535
-
--- r is what is left of n by m
-pub record Remainder (n m r : ℕ) : Type 0 where
-  pub is : r ≡ n % m
-  pub less : r < m

@@ -1,6 +1,6 @@
 -- Inside the clip all three rows are shown; the two lower ones always have something, and the upper one is tried.
 use Rattle.std.proofs.Common.{refl, arith}
-use Rattle.steps.proofs.Steps.{covers, reaches, advances, upper-byte, middle-byte, lower-byte, inner_stepped}
+use Rattle.steps.proofs.Steps.{covers, advances, upper-byte, middle-byte, lower-byte, inner_stepped}
 use Rattle.steps.proofs.step_crossed.Goals as goal
 
 pub crossed_rows-rows-requires : goal.crossed_rows-rows-requires
@@ -8,12 +8,6 @@ crossed_rows-rows-requires g c =
     let pre = c.requires in
     let fit = advances pre.0 in
     (fit.long, fit.short, fit.rest, pre.3, pre.0.ready.d-is)
-
-pub above-above-requires : goal.above-above-requires
-above-above-requires g c = let r = reaches c.requires.0 in (r.least, r.most)
-
-pub below-below-requires : goal.below-below-requires
-below-below-requires g c = let r = reaches c.requires.0 in (r.least, r.most)
 
 pub overflow_sub-above : goal.overflow_sub-above
 overflow_sub-above g c =

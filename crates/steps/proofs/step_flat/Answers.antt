@@ -2,11 +2,8 @@
 use Rattle.std.proofs.Common.{refl, ◌-◌, arith}
 use Rattle.columns.specs.inner.Layout.{raised}
 use Rattle.steps.proofs.Dots.{spotted-none}
-use Rattle.steps.proofs.Steps.{covers, reaches, advances, middle-byte, lower-byte, flat_upper, inner_stepped}
+use Rattle.steps.proofs.Steps.{covers, middle-byte, lower-byte, flat_upper, inner_stepped}
 use Rattle.steps.proofs.step_flat.Goals as goal
-
-pub below-below-requires : goal.below-below-requires
-below-below-requires g c = let r = reaches c.requires.0 in (r.least, r.most)
 
 pub overflow_sub-at : goal.overflow_sub-at
 overflow_sub-at g c =
@@ -27,9 +24,6 @@ pub put-requires-2 : goal.put-requires-2
 put-requires-2 g c =
     let pre = c.requires in
     (rw (c.put.auto.page, c.below-below.ensures) (lower-byte pre.0 pre.2).1, rw (c.flat_rows-rows.ensures, pre.1) (covers pre.0).lower)
-
-pub next-requires : goal.next-requires
-next-requires g c = (advances c.requires.0, omega arith)
 
 pub returns : goal.returns
 returns g c =

@@ -1,8 +1,8 @@
 -- The rows before the next one are drawn, and the count is theirs.
-use Rattle.std.proofs.Common.{◌≡◌, ◌∙◌, refl, ◌+◌, ◌≤◌, ◌<◌, arith}
+use Rattle.std.proofs.Common.{◌≡◌, ◌∙◌, refl, ◌+◌, arith}
 use Rattle.page.proofs.Drawn.{drawn-count}
 use Rattle.triangles.specs.inner.Row.{between_on}
-use Rattle.triangles.proofs.Rows.{rows_none, rows_next}
+use Rattle.triangles.proofs.Rows.{crosses, rows_none, rows_next}
 use Rattle.triangles.proofs.draw_rows.Goals as goal
 
 pub loop-y-init : goal.loop-y-init
@@ -21,19 +21,13 @@ pub cut_at-requires : goal.cut_at-requires
 cut_at-requires g c =
     let here = c.in-Some.ensures.steps in
     let i = c.loop-y.invariant in
-    let r = c.requires.crossed.0.rows in
-    let least : c.args.rows.start ≤ c.in-Some.y = omega (arith, here, i.0.least) in
-    let less : c.in-Some.y < c.args.rows.end = omega (arith, here, i.1) in
-    (c.requires.fit.1, r.below c.in-Some.y least less, r.above c.in-Some.y least less)
+    crosses c.requires.fit.1 c.requires.crossed.0 (omega (arith, here, i.0.least)) (omega (arith, here, i.1))
 
 pub cut_at-requires-in-loop-y : goal.cut_at-requires-in-loop-y
 cut_at-requires-in-loop-y g c =
     let here = c.in-Some.ensures.steps in
     let i = c.loop-y.invariant in
-    let r = c.requires.crossed.1.rows in
-    let least : c.args.rows.start ≤ c.in-Some.y = omega (arith, here, i.0.least) in
-    let less : c.in-Some.y < c.args.rows.end = omega (arith, here, i.1) in
-    (c.requires.fit.2, r.below c.in-Some.y least less, r.above c.in-Some.y least less)
+    crosses c.requires.fit.2 c.requires.crossed.1 (omega (arith, here, i.0.least)) (omega (arith, here, i.1))
 
 pub overflow_add-touched : goal.overflow_add-touched
 overflow_add-touched g c =
@@ -54,10 +48,3 @@ loop-y-preserved g c =
       }),
       here.0 ∙ i.1,
     )
-
-pub returns : goal.returns
-returns g c =
-    let none = c.in-None.ensures.steps in
-    let i = c.loop-y.invariant in
-    let all : c.loop-y.y-iterator.start ≡ c.args.rows.end = omega (arith, none, i.1, i.0.most) in
-    rw (← all) i.0.drawn

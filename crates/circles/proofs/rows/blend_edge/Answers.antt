@@ -13,7 +13,7 @@ pub loop-i-preserved : goal.loop-i-preserved
 loop-i-preserved g c =
     let a = c.args in
     stretch_turn c.loop-i.invariant (omega arith)
-    (in_stretch_lem a.circles a.x a.b c.loop-i.i c.apart_of-a.ensures c.covered-n.ensures.0)
+    (in_stretch_lem a.circles.now a.x a.b c.loop-i.i c.apart_of-a.ensures c.covered-n.ensures.0)
     c.over.ensures
     c.touched-touched.ensures
 

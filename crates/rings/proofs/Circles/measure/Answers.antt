@@ -6,7 +6,7 @@ pub returns-then-self-b : goal.returns-then-self-b
 returns-then-self-b c =
     let whole = c.whole_width-whole.ensures in
     let clear = c.covered_width-end.ensures in
-    measured_solid c.args.self c.args.b _ _ c.if-self-b.true clear.0 (record { whole = whole; clear = clear.1 })
+    measured_solid c.args.self.now c.args.b _ _ c.if-self-b.true clear.0 (record { whole = whole; clear = clear.1 })
 
 pub returns : goal.returns
 returns c =
@@ -15,6 +15,6 @@ returns c =
     let hole = c.whole_width.ensures in
     let edge = c.covered_width.ensures in
     rw (c.max.ensures, c.min-edge.ensures)
-    (measured_hollow c.args.self c.args.b _ _ _ _ end.0
+    (measured_hollow c.args.self.now c.args.b _ _ _ _ end.0
     (record { whole = whole; clear = end.1 })
     (record { whole = hole; clear = edge.1 }))

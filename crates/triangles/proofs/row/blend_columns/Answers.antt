@@ -24,10 +24,3 @@ loop-x-preserved g c =
       rw next (blended_next {ink = g.I.Ink.blends c.args.ink} c.requires.stretch (rw (← here.1.1) at c.loop-x.invariant.0) less c.coverage-n.ensures c.put.ensures c.touched-touched.ensures),
       here.0 ∙ c.loop-x.invariant.1,
     )
-
-pub returns : goal.returns
-returns g c =
-    let none = c.in-None.ensures.steps in
-    let i = c.loop-x.invariant in
-    let all : c.loop-x.x-iterator.start ≡ c.args.columns.end = omega (arith, none, i.1, i.0.most) in
-    record { few = omega (arith, all, i.0.few); drawn = λ n h. rw all at (i.0.drawn n h) }
