@@ -1,16 +1,14 @@
 // What a walk asks of a kind.
 ghost use Rattle.std.specs.Prelude.{◌≡◌, ℕ, ◌<◌, get_or};
 ghost use Rattle.format.specs.Format.{kind_size};
-ghost use Rattle.squeezed.specs.Squeeze.{same_clip};
 ghost use Rattle.squeeze.specs.inner.Walk.{is_setting};
 
 use format::{Kind, kind_size};
-use shapes::Clip;
 
 // How many kinds there are.
 const KINDS: usize = 11;
 
-// Whether it is that of a setting.
+// Whether it is that of a setting: a walk has the byte alone.
 #[tactic(auto, unfolding(crate::specs::inner::Walk::is_setting))]
 pub(crate) fn is_setting(kind: u8) -> bool
     ensures { result ≡ is_setting kind }
@@ -19,14 +17,6 @@ pub(crate) fn is_setting(kind: u8) -> bool
         Kind::try_from(kind),
         Ok(Kind::Clip | Kind::Level | Kind::Player)
     )
-}
-
-// Whether two clips are the same.
-#[tactic(auto, unfolding(squeezed::specs::Squeeze::same_clip))]
-pub(crate) fn same_clip(a: Clip, b: Clip) -> bool
-    ensures { result ≡ same_clip a b }
-{
-    a.x0 == b.x0 && a.y0 == b.y0 && a.x1 == b.x1 && a.y1 == b.y1
 }
 
 // The sizes of all kinds, as a table: a load for each shape was measured to be faster than a jump by its kind.

@@ -5,7 +5,6 @@ ghost use Rattle.squeezed.specs.Squeeze.{changes, all_bytes};
 ghost use Rattle.squeezed.specs.inner.Size.{size_of};
 ghost use Rattle.squeeze.specs.inner.Target.{Took};
 
-use crate::kinds::same_clip;
 use crate::target::Target;
 use settings::Settings;
 use shapes::{Record, Setting};
