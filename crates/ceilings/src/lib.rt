@@ -33,17 +33,15 @@ fn line_ceiling(line: Line) -> u64
 fn circle_ceiling(radius: u16) -> u64
     ensures { result ≡ 4 * (radius * radius) }
 {
-    4 * numbers::product(u64::from(radius), u64::from(radius))
+    4 * u64::from(radius) * u64::from(radius)
 }
 
 #[tactic(auto, using(crate::proofs::Coordinates::coordinates), unfolding(crate::specs::Ceiling::shape_ceiling, shapes::specs::Span::width, shapes::specs::Span::height))]
 fn triangle_ceiling(triangle: Triangle) -> u64
     ensures { result ≡ shape_ceiling (Shape.Triangle triangle) }
 {
-    numbers::product(
-        u64::from(extent(triangle.x0, triangle.x1, triangle.x2)),
-        u64::from(extent(triangle.y0, triangle.y1, triangle.y2)),
-    )
+    u64::from(extent(triangle.x0, triangle.x1, triangle.x2))
+        * u64::from(extent(triangle.y0, triangle.y1, triangle.y2))
 }
 
 // The pixels of a clip.
@@ -51,10 +49,7 @@ fn triangle_ceiling(triangle: Triangle) -> u64
 fn clip_pixels(clip: Clip) -> u64
     ensures { result ≡ clip_pixels clip }
 {
-    numbers::product(
-        u64::from(clip.x1.saturating_sub(clip.x0)),
-        u64::from(clip.y1.saturating_sub(clip.y0)),
-    )
+    u64::from(clip.x1.saturating_sub(clip.x0)) * u64::from(clip.y1.saturating_sub(clip.y0))
 }
 
 // What a record counts, and the pixels of the clip in force behind it.

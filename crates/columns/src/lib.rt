@@ -49,11 +49,7 @@ pub fn inside_of(lay: Layout, f: Frame, columns: Range<usize>) -> Range<usize>
 {
     let above = (lay.low as u64 + 1).saturating_sub(ROW_ORIGIN);
     let below = (lay.high as u64).saturating_sub(ROW_ORIGIN + 1);
-    part_of(
-        f,
-        numbers::product(2 * f.l, above)..numbers::product(2 * f.l, below),
-        columns,
-    )
+    part_of(f, 2 * f.l * above..2 * f.l * below, columns)
 }
 
 // Those of some columns of whose rows the clip has some: the upper edge comes above the floor of its lowest row before the right side, and
@@ -62,11 +58,11 @@ fn touched_of(lay: Layout, f: Frame, columns: Range<usize>) -> Range<usize>
     requires { PartFits f columns.start columns.end × RowsFit lay }
     ensures { TouchedPart f lay columns.start columns.end result.start result.end }
 {
-    let floor = numbers::product(2 * f.l, (lay.low as u64).saturating_sub(ROW_ORIGIN));
+    let floor = 2 * f.l * (lay.low as u64).saturating_sub(ROW_ORIGIN);
     let top = (lay.high as u64 + 1).saturating_sub(ROW_ORIGIN);
     part_of(
         f,
-        (floor + 1).saturating_sub(2 * f.s)..numbers::product(2 * f.l, top),
+        (floor + 1).saturating_sub(2 * f.s)..2 * f.l * top,
         columns,
     )
 }

@@ -5,15 +5,7 @@ ghost use Rattle.std.specs.Prelude.{◌≡◌, ◌*◌, ◌≤◌};
 ghost use Rattle.numbers.specs.inner.Order.{dist};
 ghost use Rattle.numbers.specs.inner.Offset.{offset_most};
 ghost use Rattle.edges.specs.Edge.{by_zero, under_d};
-ghost use Rattle.edges.specs.inner.Strip.{strip, under_at, span_most, height_most, whole_most, Scaled};
-
-// A product of a width or a height and b.
-pub fn scaled(a: u64, b: u64) -> u64
-    requires { (a ≤ span_most) × (b ≤ 2 * height_most) }
-    ensures { Scaled a b result }
-{
-    a * b
-}
+ghost use Rattle.edges.specs.inner.Strip.{strip, under_at, span_most, height_most, whole_most};
 
 // Twice the area between 0 and p under a height that is brought into 0 to h.
 fn strip_of(h: u64, p: u64) -> u64

@@ -141,12 +141,8 @@ fn on_one_line(c: Corners) -> bool
     requires { farthest c ≤ offset_most }
     ensures { result ≡ straight c }
 {
-    let one_way = numbers::product(c.x0, c.y1)
-        + numbers::product(c.x1, c.y2)
-        + numbers::product(c.x2, c.y0);
-    let other_way = numbers::product(c.x1, c.y0)
-        + numbers::product(c.x2, c.y1)
-        + numbers::product(c.x0, c.y2);
+    let one_way = c.x0 * c.y1 + c.x1 * c.y2 + c.x2 * c.y0;
+    let other_way = c.x1 * c.y0 + c.x2 * c.y1 + c.x0 * c.y2;
     one_way == other_way
 }
 

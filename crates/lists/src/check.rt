@@ -51,7 +51,7 @@ fn check_header(list: &[u8]) -> Result<Header, Refusal>
 fn check_page(header: Header, page: usize, steps: Option<Steps>) -> Result<(), Refusal>
     ensures { (lights : List ℕ) → Spaced lights steps → told result ≡ first (page_tests header page lights) }
 {
-    if (page as u64) < numbers::product(u64::from(header.w), u64::from(header.h)) {
+    if (page as u64) < u64::from(header.w) * u64::from(header.h) {
         return Err(Refusal::Room);
     }
     if steps.is_none() {
@@ -67,7 +67,7 @@ fn check_records(list: &[u8], header: Header) -> Result<Accepted, RefusedAt>
 {
     let basis = Basis::from(header);
     let mut place = HEADER_SIZE;
-    let mut pixels = numbers::product(u64::from(header.w), u64::from(header.h));
+    let mut pixels = u64::from(header.w) * u64::from(header.h);
     let mut ceiling: u64 = 0;
     loop {
         let counted = match try_front(&list[place..], basis, pixels) {

@@ -12,7 +12,7 @@ use lib.Signed.{le_z, non_neg, pos-nat_abs}
 use mir.Syntax.{w16, w64}
 use mir.Val.{SFits, to_z, of_z}
 use mir.Facts.{to_z-of_z, of_z-to_z}
-use Rattle.numbers.specs.inner.Order.{dist, Span}
+use Rattle.numbers.specs.inner.Order.{dist}
 use Rattle.numbers.proofs.Order.{lt_or_le}
 use Rattle.numbers.specs.Coordinate.{in_range, bits_of, signed_of, word_of, bytes_of}
 use Rattle.numbers.specs.inner.Offset.{origin, offset_most, offset_of}
@@ -132,22 +132,3 @@ le_offset {x} {y} p q =
     go : (s : Bool) → (T s → offset_of x ≤ offset_of y) → (offset_of x ≤ offset_of y → T s) → s ≡ leb (offset_of x) (offset_of y)
     go true f g = sym (le-leb (offset_of x) (offset_of y) (f tt))
     go false f g = sym (lt-leb (offset_of x) (offset_of y) (⊎_elim (λ h. h) (λ h. absurd (g h)) (lt_or_le (offset_of y) (offset_of x))))
-
--- ---- how far two signed numbers of 16 bits are apart
-
-word_parts : (z : ℤ) → SFits w16 z → (plus z < 32768) × (minus z ≤ 32768)
-word_parts (pos n) f = (f.sfits, omega arith)
-word_parts (negsuc n) f = (omega arith, f.sfits)
-
-module _ {a b : ℤ} (p : SFits w16 a) (q : SFits w16 b) where
-  gap : Diff (b -ℤ a) (plus b + minus a) (minus b + plus a)
-  gap = diff_minus (diff_of b) (diff_of a)
-
-  pub gap_is : Span a b (nat_abs (b -ℤ a))
-  gap_is = let h = word_parts a p in let k = word_parts b q in record { is = refl; most = omega (arith, diff_abs gap) }
-
-pub span_turned : {a b : ℤ} {r : ℕ} → Span b a r → Span a b r
-span_turned {a} {b} s =
-    let e = diff_abs (diff_minus (diff_of a) (diff_of b)) in
-    let f = diff_abs (diff_minus (diff_of b) (diff_of a)) in
-    record { is = omega (arith, s.is); most = s.most }

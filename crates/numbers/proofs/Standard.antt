@@ -1,18 +1,8 @@
 -- The library's words for what this crate defines: a contract of the library's methods, said in our words.
-use Rattle.std.proofs.Common.{◌≡◌, refl, sym, [], ◌∷◌, ℕ, ◌/◌, ◌%◌, ◌<◌, ℤ, ◌-ℤ◌, arith}
-use Rattle.std.specs.Prelude.{FitsSigned, unsigned_abs}
-use Rattle.std.specs.Int.{w16, abs_diff, cast_signed, cast_unsigned, to_le_bytes, from_le_bytes}
-use Rattle.numbers.specs.inner.Order.{dist, Span}
+use Rattle.std.proofs.Common.{◌≡◌, refl, sym, [], ◌∷◌, ℕ, ◌/◌, ◌%◌, ◌<◌, ℤ, arith}
+use Rattle.std.specs.Int.{w16, cast_signed, cast_unsigned, to_le_bytes, from_le_bytes}
 use Rattle.numbers.specs.Coordinate.{bits_of, signed_of, word_of, bytes_of}
-use Rattle.numbers.proofs.Coordinate.{bits_machine, signed_machine, gap_is, span_turned}
-
--- u64::abs_diff
-pub abs_diff_is : (a b : ℕ) → abs_diff a b ≡ dist a b
-abs_diff_is a b = refl
-
--- i16::abs_diff
-pub span_is : {a b : ℤ} {r : ℕ} → FitsSigned w16 a → FitsSigned w16 b → r ≡ unsigned_abs (a -ℤ b) → Span a b r
-span_is p q e = rw e (span_turned (gap_is q p))
+use Rattle.numbers.proofs.Coordinate.{bits_machine, signed_machine}
 
 -- u16::to_le_bytes and u16::from_le_bytes
 pub to_le_bytes_is : (w : ℕ) → w < 65536 → to_le_bytes w16 w ≡ bytes_of w

@@ -16,7 +16,6 @@ ghost use Rattle.triangles.specs.inner.Side.{SideFit};
 ghost use Rattle.triangles.specs.inner.Row.{between_on, beside_on, RowsDrawn, Crossed, Between};
 ghost use Rattle.triangles.specs.inner.Order.{corners, rising, Sorted};
 
-use numbers::product;
 use page::{Ink, Palette, View, clamp_offset};
 use row::Inks;
 use shapes::{Corners, Point};
@@ -48,7 +47,7 @@ fn bends_left(a: Point, b: Point, c: Point) -> bool
 {
     let lower = b.y - a.y;
     let all = c.y - a.y;
-    product(b.x, all) + product(a.x, lower) < product(c.x, lower) + product(a.x, all)
+    b.x * all + a.x * lower < c.x * lower + a.x * all
 }
 
 // Draws rows that both sides cross, s on the left of t.
@@ -96,7 +95,7 @@ fn draw_half<P: Palette>(
     }
     let side = Side::new(a, b);
     let own = palette.ink(level, side.d);
-    let both = palette.ink(level, product(side.d, long.d));
+    let both = palette.ink(level, side.d * long.d);
     if left {
         let inks = Inks {
             first: own,

@@ -64,7 +64,7 @@ impl Side {
             h,
             right,
             left,
-            start: edges::scaled(h, a.x) - left,
+            start: h * a.x - left,
             inverse: inverse_of(h),
             d: edges::whole_of(h, right + left),
         }
@@ -76,7 +76,7 @@ impl Side {
         ensures { CutOf self y result }
     {
         let i = y - self.y;
-        let low = self.start + edges::scaled(i, self.right) - edges::scaled(i, self.left);
+        let low = self.start + i * self.right - i * self.left;
         let high = low + self.right + self.left;
         Cut {
             h: self.h,
@@ -111,6 +111,6 @@ impl Cut {
         requires { CutFit self × CutFit b × (z ≤ offset_most) }
         ensures { (result ≡ between_of self b z) × (result ≤ self.d * b.d) }
     {
-        numbers::product(self.left_of(z), b.d).abs_diff(numbers::product(b.left_of(z), self.d))
+        (self.left_of(z) * b.d).abs_diff(b.left_of(z) * self.d)
     }
 }

@@ -17,4 +17,4 @@ returns c =
     let y2 : SFits w16 t.y2 = search rules in
     let x = simp to_z-of_z at c.extent.ensures in
     let y = simp to_z-of_z at c.extent-2.ensures in
-    cc (c.product.ensures.is)
+    cc

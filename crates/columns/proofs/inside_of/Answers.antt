@@ -27,4 +27,4 @@ inside {f} {lay} {a = a} {b = b} fit t =
 pub returns : goal.returns
 returns c =
     inside c.requires.0
-    (rw (c.product.ensures.is, c.product-2.ensures.is, c.saturating_sub-above.ensures, c.saturating_sub-below.ensures) at c.part_of.ensures)
+    (rw (c.saturating_sub-above.ensures, c.saturating_sub-below.ensures) at c.part_of.ensures)

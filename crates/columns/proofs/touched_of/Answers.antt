@@ -58,4 +58,4 @@ module _ (f : Frame) (lay : Layout) {p e a b : ℕ} (fit : PartFits f p e)
 pub returns : goal.returns
 returns c =
     touched c.args.f c.args.lay c.requires.0
-    (rw (c.saturating_sub-2.ensures, c.product-floor.ensures.is, c.saturating_sub.ensures, c.product.ensures.is, c.saturating_sub-top.ensures) at c.part_of.ensures)
+    (rw (c.saturating_sub-2.ensures, c.saturating_sub.ensures, c.saturating_sub-top.ensures) at c.part_of.ensures)

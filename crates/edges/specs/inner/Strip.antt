@@ -1,5 +1,5 @@
 -- The area under an edge by naturals, as the code finds it.
-use Rattle.std.specs.Prelude.{◌≡◌, ℕ, ◌+◌, ◌*◌, ◌-◌, ◌≤◌, min, pos, ◌-ℤ◌}
+use Rattle.std.specs.Prelude.{ℕ, ◌+◌, ◌*◌, ◌-◌, min, pos, ◌-ℤ◌}
 use Rattle.edges.specs.Edge.{under_n}
 
 -- twice the area between 0 and p under a height that is brought into 0 to H
@@ -19,8 +19,3 @@ height_most = 2097152
 
 abbrev pub whole_most : ℕ
 whole_most = 32258
-
--- p is a product of a width or a height and b
-pub record Scaled (a b p : ℕ) : Type 0 where
-  pub is : p ≡ a * b
-  pub most : p ≤ span_most * b

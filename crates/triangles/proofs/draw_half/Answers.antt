@@ -1,5 +1,5 @@
 -- No rows are drawn by nothing; others lie between the ends of the side, which is found first.
-use Rattle.std.proofs.Common.{◌*◌, arith}
+use Rattle.std.proofs.Common.{◌*◌, refl, arith}
 use Rattle.std.proofs.lemmas.Bool.Decides.{nat_tests}
 use Rattle.page.specs.inner.Ink.{ink_of}
 use Rattle.sides.specs.inner.Offsets.{at, row_d}
@@ -27,7 +27,7 @@ invariant_of-inks g c =
     let both = c.ink-both.ensures in
     let long = c.requires.inked in
     record {
-      whole = rw (both.whole, own.whole, long.1) c.product.ensures.is;
+      whole = rw (both.whole, own.whole, long.1) refl;
       alike = alike_in lights a.level own.blends own.whole both.blends both.whole;
       alike_too = alike_in lights a.level long.0 long.1 both.blends both.whole;
     }
@@ -40,7 +40,7 @@ invariant_of-inks-else-left g c =
     let both = c.ink-both.ensures in
     let long = c.requires.inked in
     record {
-      whole = rw (both.whole, own.whole, long.1, mul_comm a.long.d c.new-side.result.d) c.product.ensures.is;
+      whole = rw (both.whole, own.whole, long.1, mul_comm a.long.d c.new-side.result.d) refl;
       alike = alike_in lights a.level long.0 long.1 both.blends both.whole;
       alike_too = alike_in lights a.level own.blends own.whole both.blends both.whole;
     }
@@ -50,11 +50,11 @@ returns-then-left g c =
     let a = c.args in
     let ink = c.ink-both.ensures.blends in
     beside (g.P.Palette.lights a.palette) a.level a.view c.new-side.result a.long c.new-side.ensures.1 c.requires.crossed.1
-    (rw (ink, c.product.ensures.is) at c.draw_rows.ensures)
+    (rw ink at c.draw_rows.ensures)
 
 pub returns-else-left : goal.returns-else-left
 returns-else-left g c =
     let a = c.args in
     let ink = c.ink-both.ensures.blends in
     beside (g.P.Palette.lights a.palette) a.level a.view c.new-side.result a.long c.new-side.ensures.1 c.requires.crossed.1
-    (rows_back a.view c.new-side.result a.long a.rows.start a.rows.end (rw (ink, c.product.ensures.is) at c.draw_rows-else-left.ensures))
+    (rows_back a.view c.new-side.result a.long a.rows.start a.rows.end (rw ink at c.draw_rows-else-left.ensures))

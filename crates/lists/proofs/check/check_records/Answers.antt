@@ -7,7 +7,7 @@ use Rattle.lists.proofs.check.check_records.Goals as goal
 
 pub loop-counted-init : goal.loop-counted-init
 loop-counted-init c =
-    rw c.from-basis.ensures (reached-start c.args.header c.args.list.now header_size _ c.requires.0 (cc (c.product-pixels.ensures.is)))
+    rw c.from-basis.ensures (reached-start c.args.header c.args.list.now header_size _ c.requires.0 (cc))
 
 pub returns-in-Err : goal.returns-in-Err
 returns-in-Err c = refused_here c.loop-counted.invariant c.in-Err.ensures
