@@ -157,6 +157,7 @@ fn height_at(radius: u64, k: u64) -> u64
         low: 0,
         high: 256 * radius + 1,
     };
+    // no index is counted: a bracket is halved
     while bracket.low + 1 < bracket.high {
         bracket = bracket.halved(m);
     }

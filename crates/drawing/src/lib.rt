@@ -70,6 +70,7 @@ fn draw_records<P: Palette>(
     let mut settings = Settings::start(basis);
     let mut touched = [0u64; PLAYERS];
     let mut place = HEADER_SIZE;
+    // no index is counted: a walk goes by the size of each record
     loop {
         let kind = list[place];
         if kind == u8::from(Kind::End) {

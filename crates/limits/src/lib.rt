@@ -70,7 +70,7 @@ pub fn check_basis(basis: Basis) -> Result<(), Refusal>
     check_size(basis.w, basis.h)
 }
 
-// Whether a clip is in order and on a page of w by h.
+// Tries a clip on a page of w by h.
 #[tactic(auto, using(std::proofs::lemmas::Bool::Decides::nat_tests), unfolding(crate::specs::Limits::clip_refusal, crate::specs::Limits::off_page))]
 pub fn check_clip(w: u16, h: u16, clip: Clip) -> Result<(), Refusal>
     ensures { told result ≡ clip_refusal w h clip }

@@ -69,6 +69,7 @@ fn check_records(list: &[u8], header: Header) -> Result<Accepted, RefusedAt>
     let mut place = HEADER_SIZE;
     let mut pixels = u64::from(header.w) * u64::from(header.h);
     let mut ceiling: u64 = 0;
+    // no index is counted: a walk goes by the size of each record
     loop {
         let counted = match try_front(&list[place..], basis, pixels) {
             Ok(counted) => counted,

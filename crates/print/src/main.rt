@@ -44,6 +44,7 @@ fn read_list<R: Read>(from: &mut R, list: &mut [u8; 65537]) -> io::Result<usize>
     ensures { IfOk result (λ n. (n ≤ 65537) × IfSome (R.remaining from.old) (λ bytes. take n list.new ≡ take 65537 bytes)) }
 {
     let mut at: usize = 0;
+    // no index is counted: a read gives as many bytes as it has
     while at < 65537 {
         let n = from.read(&mut list[at..])?;
         if n == 0 {

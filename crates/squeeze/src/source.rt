@@ -33,6 +33,7 @@ impl Source<'_> {
         let mut settings = Settings::start(Basis::from(self.header));
         let mut before = settings;
         let mut place = HEADER_SIZE;
+        // no index is counted: a walk goes by the size of each record
         while place + 1 < list.len() {
             let kind = list[place];
             if is_setting(kind) {

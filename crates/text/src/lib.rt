@@ -151,7 +151,7 @@ fn after_count(player: usize) -> u8
     if player + 1 == PLAYERS { b'\n' } else { b' ' }
 }
 
-// Puts the text of a refusal; hands back its length.
+// Puts the text of a refusal; hands back its length. Any number has a text: a `Refusal` would ask more of a caller.
 pub fn put_refusal(out: &mut [u8], refusal: u8, place: usize) -> usize
     requires { 240 ≤ length out.old }
     ensures { (take result out.new ≡ refusal_text refusal place) × (result ≤ 240) }
