@@ -91,7 +91,9 @@ fn has_rows(lay: Layout, f: Frame) -> bool
     lay.low < layout::ROW_ORIGIN && layout::ROW_ORIGIN + (f.s as usize) < lay.high
 }
 
-// The columns that a walk takes, which are the touched ones. Where the clip has every row of a line, no edge has to be compared.
+// The columns that a walk takes, which are the touched ones. Where the clip has every row of a line, no edge has to be compared. A
+// call of it would be slower.
+#[inline(always)]
 pub fn walk_of(view: View, line: shapes::Line, f: Frame) -> Range<usize>
     requires { Lawful view (view.h * view.w) × Framed line f }
     ensures { Columns view line f result.start result.end }

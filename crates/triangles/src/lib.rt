@@ -22,6 +22,17 @@ use shapes::{Corners, Point};
 use side::Side;
 use std::ops::Range;
 
+// The side from the first corner to the last, and the ink of its shares; `right` tells whether the two others lie on its left, for the sake
+// of speed alone.
+#[derive(Drop)]
+struct Long<I: Ink> {
+    side: Side,
+    ink: I,
+    right: bool,
+    ghost fit: { SideFit side },
+    ghost whole: { I.whole ink ≡ side.d },
+}
+
 // Two corners in the order in which y rises.
 fn rising(a: Point, b: Point) -> (Point, Point)
     ensures { result ≡ rising a b }
@@ -50,7 +61,8 @@ fn bends_left(a: Point, b: Point, c: Point) -> bool
     b.x * all + a.x * lower < c.x * lower + a.x * all
 }
 
-// Draws rows that both sides cross, s on the left of t.
+// Draws rows that both sides cross, s on the left of t. A call of it would be slower.
+#[inline(always)]
 fn draw_rows<I: Ink>(
     page: &mut [u8],
     inks: &Inks<I>,
@@ -71,45 +83,42 @@ fn draw_rows<I: Ink>(
     touched
 }
 
-// Draws rows between the side from corner a up to corner b and another, which both cross them; `left` tells which is on the left, for the
-// sake of speed alone.
+// Draws rows between the side from corner a up to corner b and the long one, which both cross them.
 fn draw_half<P: Palette>(
     page: &mut [u8],
     palette: P,
     view: View,
     a: Point,
     b: Point,
-    long: Side,
-    ink: P::Ink,
-    left: bool,
+    long: &Long<P::Ink>,
     level: u8,
     rows: Range<usize>,
 ) -> u64
-    requires fit { Lawful view (length page.old) × Near a.x a.y b.x b.y × SideFit long }
-    requires inked { (P.Ink.blends ink ≡ ink_of (P.lights palette) level long.d) × (P.Ink.whole ink ≡ long.d) }
-    requires crossed { Crossed view long rows.start rows.end × Between a.y b.y rows.start rows.end }
-    ensures { RowsDrawn view (ink_of (P.lights palette) level (row_d (at a.x a.y) (at b.x b.y) * long.d)) (beside_on a.x a.y b.x b.y long) rows.start rows.end page.old page.new result }
+    requires near { Lawful view (length page.old) × Near a.x a.y b.x b.y }
+    requires inked { P.Ink.blends long.now.ink ≡ ink_of (P.lights palette) level long.now.side.d }
+    requires crossed { Crossed view long.now.side rows.start rows.end × Between a.y b.y rows.start rows.end }
+    ensures { RowsDrawn view (ink_of (P.lights palette) level (row_d (at a.x a.y) (at b.x b.y) * long.now.side.d)) (beside_on a.x a.y b.x b.y long.now.side) rows.start rows.end page.old page.new result }
 {
     if rows.is_empty() {
         return 0;
     }
     let side = Side::new(a, b);
-    let own = palette.ink(level, side.d);
-    let both = palette.ink(level, side.d * long.d);
-    if left {
+    let ink = palette.ink(level, side.d);
+    let both = palette.ink(level, side.d * long.side.d);
+    if long.right {
         let inks = Inks {
-            first: own,
+            first: ink,
+            second: long.ink,
+            both,
+        };
+        draw_rows(page, &inks, view, side, long.side, rows)
+    } else {
+        let inks = Inks {
+            first: long.ink,
             second: ink,
             both,
         };
-        draw_rows(page, &inks, view, side, long, rows)
-    } else {
-        let inks = Inks {
-            first: ink,
-            second: own,
-            both,
-        };
-        draw_rows(page, &inks, view, long, side, rows)
+        draw_rows(page, &inks, view, long.side, side, rows)
     }
 }
 
@@ -131,32 +140,13 @@ pub fn draw_triangle<P: Palette>(
     if end <= from {
         return 0;
     }
-    let long = Side::new(a, c);
-    let ink = palette.ink(level, long.d);
-    let left = bends_left(a, b, c);
-    let lower = draw_half(
-        page,
-        palette,
-        view,
-        a,
-        b,
-        long,
-        ink,
-        left,
-        level,
-        from..middle,
-    );
-    let upper = draw_half(
-        page,
-        palette,
-        view,
-        b,
-        c,
-        long,
-        ink,
-        left,
-        level,
-        middle..end,
-    );
+    let side = Side::new(a, c);
+    let long = Long {
+        side,
+        ink: palette.ink(level, side.d),
+        right: bends_left(a, b, c),
+    };
+    let lower = draw_half(page, palette, view, a, b, &long, level, from..middle);
+    let upper = draw_half(page, palette, view, b, c, &long, level, middle..end);
     lower + upper
 }

@@ -11,50 +11,50 @@ use Rattle.triangles.proofs.draw_half.Goals as goal
 pub returns-then-is_empty : goal.returns-then-is_empty
 returns-then-is_empty g c =
     let a = c.args in
-    rows_none a.view (ink_of (g.P.Palette.lights a.palette) a.level (row_d (at a.a.x a.a.y) (at a.b.x a.b.y) * a.long.d)) (beside_on a.a.x a.a.y a.b.x a.b.y a.long)
+    rows_none a.view (ink_of (g.P.Palette.lights a.palette) a.level (row_d (at a.a.x a.a.y) (at a.b.x a.b.y) * a.long.now.side.d)) (beside_on a.a.x a.a.y a.b.x a.b.y a.long.now.side)
     a.rows.start a.rows.end a.page.now (grind (arith, nat_tests))
 
 pub new-side-requires : goal.new-side-requires
 new-side-requires g c =
     let p = c.requires in
-    (p.fit.1, between-rises p.crossed.1 (grind (arith, nat_tests)))
+    (p.near.1, between-rises p.crossed.1 (grind (arith, nat_tests)))
 
 pub invariant_of-inks : goal.invariant_of-inks
 invariant_of-inks g c =
     let a = c.args in
     let lights = g.P.Palette.lights a.palette in
-    let own = c.ink-own.ensures in
+    let own = c.ink-ink.ensures in
     let both = c.ink-both.ensures in
-    let long = c.requires.inked in
+    let long = a.long.now in
     record {
-      whole = rw (both.whole, own.whole, long.1) refl;
+      whole = rw (both.whole, own.whole, long.whole) refl;
       alike = alike_in lights a.level own.blends own.whole both.blends both.whole;
-      alike_too = alike_in lights a.level long.0 long.1 both.blends both.whole;
+      alike_too = alike_in lights a.level c.requires.inked long.whole both.blends both.whole;
     }
 
-pub invariant_of-inks-else-left : goal.invariant_of-inks-else-left
-invariant_of-inks-else-left g c =
+pub invariant_of-inks-else-long : goal.invariant_of-inks-else-long
+invariant_of-inks-else-long g c =
     let a = c.args in
     let lights = g.P.Palette.lights a.palette in
-    let own = c.ink-own.ensures in
+    let own = c.ink-ink.ensures in
     let both = c.ink-both.ensures in
-    let long = c.requires.inked in
+    let long = a.long.now in
     record {
-      whole = rw (both.whole, own.whole, long.1, mul_comm a.long.d c.new-side.result.d) refl;
-      alike = alike_in lights a.level long.0 long.1 both.blends both.whole;
+      whole = rw (both.whole, own.whole, long.whole, mul_comm a.long.now.side.d c.new-side.result.d) refl;
+      alike = alike_in lights a.level c.requires.inked long.whole both.blends both.whole;
       alike_too = alike_in lights a.level own.blends own.whole both.blends both.whole;
     }
 
-pub returns-then-left : goal.returns-then-left
-returns-then-left g c =
+pub returns-then-long : goal.returns-then-long
+returns-then-long g c =
     let a = c.args in
     let ink = c.ink-both.ensures.blends in
-    beside (g.P.Palette.lights a.palette) a.level a.view c.new-side.result a.long c.new-side.ensures.1 c.requires.crossed.1
+    beside (g.P.Palette.lights a.palette) a.level a.view c.new-side.result a.long.now.side c.new-side.ensures.1 c.requires.crossed.1
     (rw ink at c.draw_rows.ensures)
 
-pub returns-else-left : goal.returns-else-left
-returns-else-left g c =
+pub returns-else-long : goal.returns-else-long
+returns-else-long g c =
     let a = c.args in
     let ink = c.ink-both.ensures.blends in
-    beside (g.P.Palette.lights a.palette) a.level a.view c.new-side.result a.long c.new-side.ensures.1 c.requires.crossed.1
-    (rows_back a.view c.new-side.result a.long a.rows.start a.rows.end (rw ink at c.draw_rows-else-left.ensures))
+    beside (g.P.Palette.lights a.palette) a.level a.view c.new-side.result a.long.now.side c.new-side.ensures.1 c.requires.crossed.1
+    (rows_back a.view c.new-side.result a.long.now.side a.rows.start a.rows.end (rw ink at c.draw_rows-else-long.ensures))

@@ -39,9 +39,9 @@ returns g c =
     let lights = g.P.Palette.lights a.palette in
     let lower = rows-between a.view c.requires.0.y-order r.y0 r.y1 c.clamp_offset-from.ensures c.clamp_offset-middle.ensures s.first in
     let upper = rows-between a.view c.requires.0.y-order r.y1 r.y2 c.clamp_offset-middle.ensures c.clamp_offset-end.ensures s.last in
-    let i = c.new-long.ensures.1 in
+    let i = c.new-side.ensures.1 in
     whole-drawn lights a.level a.view a.triangle _ r c.requires.0 (triangle_lawful a.triangle c.requires.1) c.from.ensures s
     c.clamp_offset-from.ensures c.clamp_offset-end.ensures
     (rows_join a.view (ink_of lights a.level (offset_d r)) (offset_n r) _ _ _ lower.order upper.order
-    (lower_half lights a.level a.view r c.new-long.result i s.first s.last lower c.draw_half-lower.ensures)
-    (upper_half lights a.level a.view r c.new-long.result i s.first s.last upper c.draw_half-upper.ensures))
+    (lower_half lights a.level a.view r c.new-side.result i s.first s.last lower c.draw_half-lower.ensures)
+    (upper_half lights a.level a.view r c.new-side.result i s.first s.last upper c.draw_half-upper.ensures))
