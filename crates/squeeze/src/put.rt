@@ -5,6 +5,7 @@ ghost use Rattle.squeezed.specs.Squeeze.{changes, all_bytes};
 ghost use Rattle.squeezed.specs.inner.Size.{size_of};
 ghost use Rattle.squeeze.specs.inner.Target.{Took};
 
+use crate::kinds::same_clip;
 use crate::target::Target;
 use settings::Settings;
 use shapes::{Record, Setting};
@@ -15,8 +16,7 @@ fn put_setting<T: Target>(target: &mut T, setting: Setting)
 {
     let rec = Record::Setting(setting);
     let bytes = encoding::record_bytes(rec);
-    let all = &bytes[..];
-    target.put(&all[..format::record_size(rec)]);
+    target.put(&bytes[..format::record_size(rec)]);
 }
 
 // A shape, whose record has these bytes, behind the settings that differ.
@@ -30,7 +30,7 @@ pub(crate) fn put_shape<T: Target>(
     requires { T.end target.old + length (all_bytes (changes before settings) ++ bytes.now) ≤ T.most target.old }
     ensures { Took T.end T.most T.Wrote target.old (all_bytes (changes before settings) ++ bytes.now) target.new }
 {
-    if before.clip != settings.clip {
+    if !same_clip(before.clip, settings.clip) {
         put_setting(target, Setting::Clip(settings.clip));
     }
     if before.level != settings.level {

@@ -57,8 +57,7 @@ impl Source<'_> {
         ensures { Took T.end T.most T.Wrote target.old (squeezed_source self.entry) target.new }
     {
         let bytes = encoding::header_bytes(self.header);
-        let all = &bytes[..];
-        target.put(&all[..HEADER_SIZE]);
+        target.put(&bytes[..HEADER_SIZE]);
         self.put_records(target);
     }
 

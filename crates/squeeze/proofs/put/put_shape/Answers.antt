@@ -1,13 +1,14 @@
 -- The clip, behind it the level, behind it the player, each where it differs, and behind them the shape.
-use Rattle.std.proofs.Common.{◌≡◌, refl, sym, ap, Bool, true, false, not, true≢false, List, ◌++◌, ℕ, arith, length, length-append, eq-eqb, ne_eqb}
+use Rattle.std.proofs.Common.{◌≡◌, ◌∙◌, refl, sym, ap, Bool, true, false, not, true≢false, List, ◌++◌, ℕ, arith, length, length-append, eq-eqb, ne_eqb}
 use Rattle.shapes.specs.declared.Setting.TheVariants.{Clip as clip, Level as level, Player as player}
+use Rattle.format.specs.Format.{kind_of, fields_of}
 use Rattle.squeezed.specs.Squeeze.{all_bytes, changes, same_clip}
 use Rattle.squeezed.proofs.Changes.{clip_change, level_change, player_change}
 use Rattle.squeezed.proofs.Sizes.{changes-bytes}
 use Rattle.squeeze.specs.inner.Target.{Took}
 use Rattle.squeeze.proofs.Took.{took_is, took_then, took_changed, took_same}
 use Rattle.squeeze.proofs.put.put_shape.Goals as goal
-use Rattle.squeeze.proofs.put.put_shape.Goals.{then-ne, else-ne, then-before-settings, else-before-settings, then-before-settings-2, else-before-settings-2}
+use Rattle.squeeze.proofs.put.put_shape.Goals.{then-not-same_clip, else-not-same_clip, then-before-settings, else-before-settings, then-before-settings-2, else-before-settings-2}
 
 differs : (b : Bool) → true ≡ not b → b ≡ false
 differs true e = absurd (true≢false e)
@@ -18,19 +19,19 @@ same true e = refl
 same false e = absurd (true≢false (sym e))
 
 pub returns : goal.returns
-unfolding same_clip
+unfolding same_clip kind_of fields_of
 returns g c =
     let t = g.T.Target in
     let none = g.met.T.Target.none in
     let b = c.args.before in
     let f = c.args.settings in
     let s = c.args.target.now in
-    let one : Took t.end t.most t.Wrote s (all_bytes (clip_change b f)) c.if-ne.target =
-    elim c.if-ne.branch [
-      | then-ne w ↦ rw w.target-is (took_changed (clip f.clip) (differs _ (w.if-ne.ensures)) w.put_setting.ensures)
-      | else-ne w ↦ took_same (clip f.clip) (same _ (w.if-ne.ensures)) (none s) w.target-is
+    let one : Took t.end t.most t.Wrote s (all_bytes (clip_change b f)) c.if-not-same_clip.target =
+    elim c.if-not-same_clip.branch [
+      | then-not-same_clip w ↦ rw w.target-is (took_changed (clip f.clip) (sym c.same_clip.ensures ∙ w.if-not-same_clip.true) w.put_setting.ensures)
+      | else-not-same_clip w ↦ took_same (clip f.clip) (sym c.same_clip.ensures ∙ w.if-not-same_clip.false) (none s) w.target-is
     ] in
-    let two : Took t.end t.most t.Wrote c.if-ne.target (all_bytes (level_change b f)) c.if-before-settings.target =
+    let two : Took t.end t.most t.Wrote c.if-not-same_clip.target (all_bytes (level_change b f)) c.if-before-settings.target =
     elim c.if-before-settings.branch [
       | then-before-settings w ↦ rw w.target-is (took_changed (level f.level) (ne_eqb _ _ w.if-before-settings.true) w.put_setting-then-before-settings.ensures)
       | else-before-settings w ↦ took_same (level f.level) (eq-eqb _ _ w.if-before-settings.false) (none _) w.target-is
