@@ -34,7 +34,7 @@ fn draw_walk<I: Ink, F: Fn(&mut [u8], I, Stroke, Step) -> Step>(
         return 0;
     }
     let mut at = Step::first(s.layout, s.frame, columns.start);
-    // by `for` the column would be counted twice: a step holds it
+    // no index is counted: each step tells where the next one is
     while at.p < columns.end {
         at = step(page, ink, s, at);
     }
