@@ -1,2 +1,3 @@
 -- The laws of the numbers that are taken.
+pub mod Held
 pub mod Refused

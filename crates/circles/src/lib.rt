@@ -45,6 +45,7 @@ pub(crate) fn encloses(lo: usize, hi: usize, c: u64, d: u64) -> bool
 
 // The part of the clip that the box of a ring meets.
 fn box_of(view: View, ring: Ring) -> View
+    requires { (ring.cx ≤ offset_most) × (ring.cy ≤ offset_most) }
     ensures { result ≡ boxed view ring }
 {
     View {
@@ -129,7 +130,7 @@ fn draw_boxed<I: Ink>(page: &mut [u8], ink: I, view: View, ring: Ring) -> u64
 // Draws what lies between the circles of a ring within the view's clip. It stands in line, as a small ring feels each call.
 #[inline(always)]
 fn draw_between<I: Ink>(page: &mut [u8], ink: I, view: View, ring: Ring) -> u64
-    requires { Lawful view (length page.old) × (I.whole ink ≡ 512) }
+    requires { Lawful view (length page.old) × (I.whole ink ≡ 512) × (ring.cx ≤ offset_most) × (ring.cy ≤ offset_most) }
     ensures { DrawnIn view (I.blends ink) (covered_on ring) page.old page.new result }
 {
     let part = box_of(view, ring);

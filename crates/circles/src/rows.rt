@@ -1,6 +1,6 @@
 // The rows of a ring within a clip, each drawn in stretches: edges are blended pixel by pixel, what is whole is filled, a hole is left alone.
 ghost use Rattle.std.specs.Prelude.{◌≡◌, ℕ, ◌+◌, ◌≤◌, ◌<◌, length};
-ghost use Rattle.numbers.specs.inner.Offset.{origin};
+ghost use Rattle.numbers.specs.inner.Offset.{origin, offset_most};
 ghost use Rattle.limits.specs.Limits.{radius_most};
 ghost use Rattle.numbers.specs.Sum.{sum_to};
 ghost use Rattle.page.specs.Page.{over};
@@ -25,7 +25,7 @@ pub(crate) fn left_at(view: View, ring: Ring, d: u64) -> usize
 }
 
 pub(crate) fn right_at(view: View, ring: Ring, d: u64) -> usize
-    requires { d ≤ radius_most }
+    requires { (ring.cx ≤ offset_most) × (d ≤ radius_most) }
     ensures { result ≡ right_of view ring d }
 {
     clamp_offset(view.x0, view.x1, ring.cx + d)

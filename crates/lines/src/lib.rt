@@ -12,9 +12,9 @@ ghost use Rattle.columns.specs.inner.Layout.{Between, strip};
 ghost use Rattle.lines.specs.inner.Columns.{Drawable, Walking, ColumnsDrawn};
 
 use bands::Frame;
+use columns::Span;
 use columns::layout::Layout;
 use page::{Ink, Palette, View};
-use std::ops::Range;
 use steps::{Step, Stroke, step_clipped, step_inside};
 
 // Draws columns of a stroke, if any, each by a step of a walk; hands back how many pixels they touched. Its loop is for one kind of columns,
@@ -23,17 +23,17 @@ fn draw_walk<I: Ink, F: Fn(&mut [u8], I, Stroke, Step) -> Step>(
     page: &mut [u8],
     ink: I,
     s: Stroke,
-    columns: Range<usize>,
+    columns: Span,
     step: F,
 ) -> u64
-    requires drawable { Drawable s columns.start columns.end (length page.old) }
-    requires walking { Walking (I.blends ink) s columns.start columns.end (λ l at. F.pre step l ink s at) (λ l at to m. F.post step l ink s at to m) }
-    ensures { ColumnsDrawn (I.blends ink) s columns.start columns.end page.old page.new result }
+    requires drawable { Drawable s columns.from columns.end (length page.old) }
+    requires walking { Walking (I.blends ink) s columns.from columns.end (λ l at. F.pre step l ink s at) (λ l at to m. F.post step l ink s at to m) }
+    ensures { ColumnsDrawn (I.blends ink) s columns.from columns.end page.old page.new result }
 {
     if columns.is_empty() {
         return 0;
     }
-    let mut at = Step::first(s.layout, s.frame, columns.start);
+    let mut at = Step::first(s.layout, s.frame, columns.from);
     // no index is counted: each step tells where the next one is
     while at.p < columns.end {
         at = step(page, ink, s, at);
@@ -49,11 +49,11 @@ pub(crate) fn draw_columns<P: Palette>(
     line: shapes::Line,
     f: Frame,
     level: u8,
-    columns: Range<usize>,
+    columns: Span,
 ) -> u64
-    requires { Lawful view (length page.old) × Framed line f × Between view f columns.start columns.end }
+    requires { Lawful view (length page.old) × Framed line f × Between view f columns.from columns.end }
     ensures { Drawn view.w view.h (ink_of (P.lights palette) level (drawn_d (asShape line)))
-        (strip view f columns.start columns.end (shape_on (asShape line))) page.old page.new result }
+        (strip view f columns.from columns.end (shape_on (asShape line))) page.old page.new result }
 {
     let layout = Layout::of(view, f);
     let d = bands::whole_of(line.exact, f.l, f.s);
@@ -65,10 +65,18 @@ pub(crate) fn draw_columns<P: Palette>(
         d,
     };
     let ink = palette.ink(level, d);
-    let inside = columns::inside_of(layout, f, columns.start..columns.end);
-    let lower = draw_walk(page, ink, s, columns.start..inside.start, step_clipped);
-    let inner = draw_walk(page, ink, s, inside.start..inside.end, step_inside);
-    let upper = draw_walk(page, ink, s, inside.end..columns.end, step_clipped);
+    let inside = columns::inside_of(layout, f, columns);
+    let before = Span {
+        from: columns.from,
+        end: inside.from,
+    };
+    let behind = Span {
+        from: inside.end,
+        end: columns.end,
+    };
+    let lower = draw_walk(page, ink, s, before, step_clipped);
+    let inner = draw_walk(page, ink, s, inside, step_inside);
+    let upper = draw_walk(page, ink, s, behind, step_clipped);
     lower + inner + upper
 }
 

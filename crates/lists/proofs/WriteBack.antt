@@ -198,9 +198,9 @@ module _ (tests : List (Bool × ℕ)) (l : List ℕ) (rs : List Record) (bytes :
       written_again c (omega arith) ∙ ap (λ (bs : List ℕ). l ++ bs) (ap (λ (k : ℕ). drop k m) (sym same) ∙ drop-length m) ∙ append-nil l
 
   -- no write is refused, the place ends behind the list, and its own version, W and H are held
-  pub answered-again : length l ≤ length m → writer_answer m (header_at l) rs ≡ Ok (at_place (basis_of (header_at l)) (length l))
+  pub answered-again : (c : Cursor) → length l ≤ length m → writer_answer m c (header_at l) rs ≡ Ok (at_place (basis_of (header_at l)) (length l))
   unfolding writer_answer
-  answered-again fits =
+  answered-again c fits =
       let p = headed tests l (list-headed tests l rs e) in
       let done = header_done m (header_at l) (header-none (length m) (header_at l) p.basis (omega (arith, p.least))) in
       let rest = length-drop header_size l in

@@ -1,5 +1,5 @@
 -- The two outcomes of a write, and what is known of a record that was written.
-use Rattle.std.proofs.Common.{◌≡◌, refl, ◌∙◌, ap, false, ◌||◌, ◌⊎◌, inl, inr, List, ◌++◌, ℕ, ◌+◌, ◌-◌, ◌≤◌, ◌<◌, min, arith, lt-ltb, le-ltb, ltb-false, ltb, length, take, drop, replicate, length-append, length-drop, length-take-le, Ok}
+use Rattle.std.proofs.Common.{◌≡◌, refl, ◌∙◌, ap, false, ◌||◌, ◌⊎◌, inl, inr, List, ◌++◌, ℕ, ◌+◌, ◌-◌, ◌≤◌, ◌<◌, min, arith, lt-ltb, le-ltb, ltb-false, ltb, length, take, drop, replicate, length-append, length-drop, length-take-le, ne_eqb, Ok, Err}
 use Rattle.std.proofs.Math.Seq.{paste, take-append_seam}
 use Rattle.numbers.proofs.Order.{lt_or_le}
 use Rattle.limits.specs.Limits.{basis_refusal, record_refusal}
@@ -20,9 +20,10 @@ unfolding header_bytes
 put_header l d = put_padded l 0 (header_bytes d)
 
 module _ (l : List ℕ) where
-  pub header_refused : (d : Header) → 0 < header_write_refusal (length l) d → header_list l d ≡ l
-  unfolding header_list
-  header_refused d h = rw (lt-ltb 0 _ h)
+  pub header_refused : (d : Header) → 0 < header_write_refusal (length l) d
+      → (header_written l d ≡ Err (header_write_refusal (length l) d)) × (header_list l d ≡ l)
+  unfolding header_written header_list
+  header_refused d h = rw (ne_eqb (header_write_refusal (length l) d) 0 (λ z. omega arith), lt-ltb 0 _ h) (refl, refl)
 
   pub header_done : (d : Header) → header_write_refusal (length l) d ≡ 0
       → (header_written l d ≡ Ok (behind_header d)) × (header_list l d ≡ put_at 0 (header_bytes d) l)
@@ -30,9 +31,10 @@ module _ (l : List ℕ) where
   header_done d e = rw e (refl, refl)
 
   module _ (c : Cursor) (r : Record) where
-    pub record_refused : 0 < record_write_refusal (length l) c r → record_list l c r ≡ l
-    unfolding record_list
-    record_refused h = rw (lt-ltb 0 _ h)
+    pub record_refused : 0 < record_write_refusal (length l) c r
+        → (record_written l c r ≡ Err (record_write_refusal (length l) c r)) × (record_list l c r ≡ l)
+    unfolding record_written record_list
+    record_refused h = rw (ne_eqb (record_write_refusal (length l) c r) 0 (λ z. omega arith), lt-ltb 0 _ h) (refl, refl)
 
     pub record_done : record_write_refusal (length l) c r ≡ 0
         → (record_written l c r ≡ Ok (behind_record c r)) × (record_list l c r ≡ put_at c.place (record_bytes r) l)
@@ -99,7 +101,7 @@ unfolding header_bytes
 header-length l d = go (lt_or_le 0 (header_write_refusal (length l) d))
   where
     go : (0 < header_write_refusal (length l) d) ⊎ (header_write_refusal (length l) d ≤ 0) → length (header_list l d) ≡ length l
-    go (inl h) = ap length (header_refused l d h)
+    go (inl h) = ap length (header_refused l d h).1
     go (inr h) =
         let none : header_write_refusal (length l) d ≡ 0 = omega arith in
         let long = header_room (length l) d none in
@@ -109,7 +111,7 @@ pub record_length : (l : List ℕ) (c : Cursor) (r : Record) → length (record_
 record_length l c r = go (lt_or_le 0 (record_write_refusal (length l) c r))
   where
     go : (0 < record_write_refusal (length l) c r) ⊎ (record_write_refusal (length l) c r ≤ 0) → length (record_list l c r) ≡ length l
-    go (inl k) = ap length (record_refused l c r k)
+    go (inl k) = ap length (record_refused l c r k).1
     go (inr k) =
         let none : record_write_refusal (length l) c r ≡ 0 = omega arith in
         ap length (record_done l c r none).1 ∙ put_length l c.place (record_bytes r) (writable (length l) c r none).room.inside

@@ -64,16 +64,16 @@ records_list l c (r ∷ rs) = records_list (record_list l c r) (moved_to c (reco
 unfoldable pub list_written : List ℕ → Cursor → Header → List Record → List ℕ
 list_written l c d rs = records_list (header_list l d) (moved_to c (header_written l d)) rs
 
--- what follows an answer: after a refusal nothing is written
-abbrev pub unless_refused : Result Cursor ℕ → (Cursor → Result Cursor ℕ) → Result Cursor ℕ
-unless_refused (Ok c) next = next c
-unless_refused (Err f) next = Err f
+-- what follows an answer of a writer that stood at c: after a refusal nothing is written, and it is told where the writer stands
+abbrev pub unless_refused : Cursor → Result Cursor ℕ → (Cursor → Result Cursor (ℕ × Cursor)) → Result Cursor (ℕ × Cursor)
+unless_refused c (Ok next) then_from = then_from next
+unless_refused c (Err f) then_from = Err (f, c)
 
--- what the writer answers to some records: the first refusal, or where it then stands
-unfoldable pub records_written : List ℕ → Cursor → List Record → Result Cursor ℕ
+-- what the writer answers to some records: where it then stands, or the number of the first refusal and where it stands then
+unfoldable pub records_written : List ℕ → Cursor → List Record → Result Cursor (ℕ × Cursor)
 records_written l c [] = Ok c
-records_written l c (r ∷ rs) = unless_refused (record_written l c r) (λ next. records_written (record_list l c r) next rs)
+records_written l c (r ∷ rs) = unless_refused c (record_written l c r) (λ next. records_written (record_list l c r) next rs)
 
 -- and to a header and then some records
-unfoldable pub writer_answer : List ℕ → Header → List Record → Result Cursor ℕ
-writer_answer l d rs = unless_refused (header_written l d) (λ next. records_written (header_list l d) next rs)
+unfoldable pub writer_answer : List ℕ → Cursor → Header → List Record → Result Cursor (ℕ × Cursor)
+writer_answer l c d rs = unless_refused c (header_written l d) (λ next. records_written (header_list l d) next rs)

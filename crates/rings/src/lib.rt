@@ -2,7 +2,6 @@
 #![tactic(auto)]
 
 ghost use Rattle.std.specs.Prelude.{◌≡◌, ℕ, ◌+◌, ◌*◌, ◌≤◌, ◌<◌, min, max, leb, length};
-ghost use Rattle.numbers.specs.inner.Offset.{offset_most};
 ghost use Rattle.limits.specs.Limits.{radius_most};
 ghost use Rattle.chords.specs.Circle.{chords};
 ghost use Rattle.rings.specs.inner.Heights.{at, Heights, Nested};
@@ -16,8 +15,6 @@ pub struct Ring {
     pub cy: u64,
     pub radius: u64,
     pub hole: u64,
-    ghost across: { cx ≤ offset_most },
-    ghost down: { cy ≤ offset_most },
     ghost within: { hole ≤ radius },
     ghost most: { radius ≤ radius_most },
 }

@@ -39,5 +39,5 @@ pub(crate) fn put_shape<T: Target>(
     if before.player != settings.player {
         put_setting(target, Setting::Player(settings.player));
     }
-    target.put(bytes);
+    target.put_run(bytes);
 }

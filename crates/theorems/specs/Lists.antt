@@ -22,4 +22,4 @@ pub record Lists : Type 0 where
       → (m : List ℕ) (c : Cursor) → length m ≡ length s → list_written m c (header_at s) rs ≡ s
   -- no write is refused, the place ends behind the list, and its own version, W and H are held (R7.7)
   pub answered-again : (tests : List (Bool × ℕ)) (s : List ℕ) (rs : List Record) → AllBytes s → records_of tests s ≡ accepted rs
-      → (m : List ℕ) → length s ≤ length m → writer_answer m (header_at s) rs ≡ Ok (record { place = length s; basis = basis_of (header_at s) })
+      → (m : List ℕ) (c : Cursor) → length s ≤ length m → writer_answer m c (header_at s) rs ≡ Ok (record { place = length s; basis = basis_of (header_at s) })

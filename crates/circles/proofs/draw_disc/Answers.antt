@@ -14,11 +14,15 @@ invariant_of-circle g c =
     let d = c.args.disc in
     let k : LawfulCircle radius_most d.x d.y d.radius = disc_lawful d c.requires.1 in
     record {
-      across = rw c.centre-c.ensures (omega (arith, k.x_in.less));
-      down = rw c.centre-c.ensures (omega (arith, k.y_in.less));
       within = omega arith;
       most = k.most;
     }
+
+pub draw_between-requires : goal.draw_between-requires
+draw_between-requires g c =
+    let d = c.args.disc in
+    let k : LawfulCircle radius_most d.x d.y d.radius = disc_lawful d c.requires.1 in
+    (c.requires.0, c.chord_ink.ensures.whole, rw c.centre-c.ensures (omega (arith, k.x_in.less)), rw c.centre-c.ensures (omega (arith, k.y_in.less)))
 
 pub returns : goal.returns
 unfolding rules_of

@@ -16,11 +16,14 @@ pub invariant_of-between : goal.invariant_of-between
 invariant_of-between g c =
     let k : LawfulRing radius_most c.args.ring = ring_lawful c.args.ring c.requires.1 in
     record {
-      across = rw c.centre-c.ensures (omega (arith, k.circle.x_in.less));
-      down = rw c.centre-c.ensures (omega (arith, k.circle.y_in.less));
       within = omega arith;
       most = k.circle.most;
     }
+
+pub draw_between-requires : goal.draw_between-requires
+draw_between-requires g c =
+    let k : LawfulRing radius_most c.args.ring = ring_lawful c.args.ring c.requires.1 in
+    (c.requires.0, c.chord_ink.ensures.whole, rw c.centre-c.ensures (omega (arith, k.circle.x_in.less)), rw c.centre-c.ensures (omega (arith, k.circle.y_in.less)))
 
 pub returns : goal.returns
 unfolding rules_of

@@ -21,10 +21,10 @@ returns-then-is_empty c =
     let span = c.columns_of-span.result in
     let clear = sym (rw c.in_ok-check_column.was at c.check_column.ensures) in
     let both = column-lawful a.w a.h a.clip a.line clear in
-    let empty : span.end ≤ span.start = grind (arith, nat_tests) in
+    let empty : span.end ≤ span.from = grind (arith, nat_tests) in
     rw clear
     (ap (λ r. Ok r)
-    (none_last a.w a.h a.clip a.line c.frame_of-f.result (a.h * a.w) span.start span.end both.0 both.1 c.frame_of-f.ensures (rw c.view_of.ensures at c.columns_of-span.ensures) empty))
+    (none_last a.w a.h a.clip a.line c.frame_of-f.result (a.h * a.w) span.from span.end both.0 both.1 c.frame_of-f.ensures (rw c.view_of.ensures at c.columns_of-span.ensures) empty))
 
 pub returns : goal.returns
 returns c =
@@ -32,7 +32,7 @@ returns c =
     let span = c.columns_of-span.result in
     let clear = sym (rw c.in_ok-check_column.was at c.check_column.ensures) in
     let both = column-lawful a.w a.h a.clip a.line clear in
-    let some : span.start < span.end = grind (arith, nat_tests) in
+    let some : span.from < span.end = grind (arith, nat_tests) in
     rw clear
     (ap (λ r. Ok r)
-    (is_last a.w a.h a.clip a.line c.frame_of-f.result (a.h * a.w) span.start span.end both.0 both.1 c.frame_of-f.ensures (rw c.view_of.ensures at c.columns_of-span.ensures) some))
+    (is_last a.w a.h a.clip a.line c.frame_of-f.result (a.h * a.w) span.from span.end both.0 both.1 c.frame_of-f.ensures (rw c.view_of.ensures at c.columns_of-span.ensures) some))

@@ -10,7 +10,7 @@ returns-then-is_empty g c = none-drawn c.args.page.now (grind (arith, nat_tests)
 pub loop-at-init : goal.loop-at-init
 loop-at-init g c =
     let at = c.first-at.ensures in
-    let some : c.args.columns.start < c.args.columns.end = grind (arith, nat_tests) in
+    let some : c.args.columns.from < c.args.columns.end = grind (arith, nat_tests) in
     (refl, extended_none c.first-at.result c.args.page.now (walk_begins c.requires.drawable some at.0 at.1 at.2), omega (arith, at.1))
 
 pub loop-at-smaller : goal.loop-at-smaller

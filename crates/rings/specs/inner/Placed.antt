@@ -1,6 +1,6 @@
 -- A ring on a page: its coverage by columns and rows.
 use Rattle.std.specs.Prelude.{List, ℕ, ◌+◌, ◌≤◌, ◌<◌}
-use Rattle.numbers.specs.inner.Offset.{origin}
+use Rattle.numbers.specs.inner.Offset.{origin, offset_most}
 use Rattle.page.specs.inner.Paint.{clipped, Lawful, Drawn}
 use Rattle.page.specs.declared.View.{View}
 use Rattle.chords.specs.inner.Circle.{apart}
@@ -24,6 +24,8 @@ pub record Reached (view : View) (ring : Ring) : Type 0 where
 pub record Placed (view : View) (size : ℕ) (ring : Ring) : Type 0 where
   pub lawful : Lawful view size
   pub near : Reached view ring
+  pub across : ring.cx ≤ offset_most
+  pub down : ring.cy ≤ offset_most
 
 -- what of the ring lies in columns x0 to x1 and rows y0 to y1 is drawn by an ink on l, which gives m, and touches t pixels
 abbrev pub RingDrawn : (ℕ → ℕ → ℕ) → View → Circles → ℕ → ℕ → ℕ → ℕ → List ℕ → List ℕ → ℕ → Type 0

@@ -52,5 +52,5 @@ returns g c =
     let two_sizes = length-append x y in
     let three_sizes = length-append (x ++ y) z in
     let four_sizes = length-append (x ++ y ++ z) bytes in
-    let all = took_then joins (omega (arith, c.requires)) (took_then joins (omega (arith, c.requires)) (took_then joins (omega (arith, c.requires)) one two) three) c.put.ensures in
+    let all = took_then joins (omega (arith, c.requires)) (took_then joins (omega (arith, c.requires)) (took_then joins (omega (arith, c.requires)) one two) three) c.put_run.ensures in
     took_is (sym (ap (λ (bs : List ℕ). bs ++ bytes) told)) all
