@@ -80,7 +80,7 @@ fn draw_records<P: Palette>(
         let player = settings.player as usize;
         let own = draw_record(page, palette, basis, settings.clip, settings.level, rec);
         touched[player] += own;
-        settings = settings.after(rec);
+        settings.apply(rec);
         place = records::read::next_place(list, place);
     }
 }

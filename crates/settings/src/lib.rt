@@ -32,16 +32,16 @@ impl Settings {
         }
     }
 
-    // The settings after a record.
+    // Brings a record in force, if it is a setting. In place: by value, a walk would take the clip apart and put it together again at each.
     #[tactic(auto, unfolding(crate::specs::Settings::in_force))]
-    pub fn after(self, rec: Record) -> Settings
-        ensures { result ≡ in_force self rec }
+    pub fn apply(&mut self, rec: Record)
+        ensures { self.new ≡ in_force self.old rec }
     {
         match rec {
-            Record::Setting(Setting::Clip(clip)) => Settings { clip, ..self },
-            Record::Setting(Setting::Level(level)) => Settings { level, ..self },
-            Record::Setting(Setting::Player(player)) => Settings { player, ..self },
-            Record::Shape(_) | Record::End => self,
+            Record::Setting(Setting::Clip(clip)) => self.clip = clip,
+            Record::Setting(Setting::Level(level)) => self.level = level,
+            Record::Setting(Setting::Player(player)) => self.player = player,
+            Record::Shape(_) | Record::End => {}
         }
     }
 }

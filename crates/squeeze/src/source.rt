@@ -38,7 +38,7 @@ impl Source<'_> {
             let kind = list[place];
             if is_setting(kind) {
                 let rec = decoding::decode(&list[place..]);
-                settings = settings.after(rec);
+                settings.apply(rec);
                 place = records::read::next_place(list, place);
             } else {
                 let next = place + sizes[kind as usize];

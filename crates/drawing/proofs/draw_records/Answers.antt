@@ -43,6 +43,6 @@ pub loop-palette-preserved : goal.loop-palette-preserved
 loop-palette-preserved g c =
     let p = c.loop-palette.invariant in
     let done = c.draw_record-own.ensures in (
-      remaining_next p.0 c.decode-rec.ensures (λ e. c.if-kind-from.false (e ∙ sym c.from.ensures)) (done.0 _) done.1 done.2 c.after-settings.ensures c.next_place-place.ensures,
+      remaining_next p.0 c.decode-rec.ensures (λ e. c.if-kind-from.false (e ∙ sym c.from.ensures)) (done.0 _) done.1 done.2 c.apply.ensures c.next_place-place.ensures,
       ap length (done.0 0).page ∙ length-shapes _ _ _ _ ∙ p.1,
     )

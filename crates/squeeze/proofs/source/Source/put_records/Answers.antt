@@ -31,7 +31,7 @@ pub loop-place-preserved-then-is_setting : goal.loop-place-preserved-then-is_set
 loop-place-preserved-then-is_setting g c =
     let turn = c.loop-place.invariant in
     taking_setting turn (squeezing_more turn.walk c.loop-place-test.true) c.decode-rec.ensures c.next_place-place.ensures
-    (sym c.is_setting.ensures ∙ c.if-is_setting.true) c.after-settings.ensures
+    (sym c.is_setting.ensures ∙ c.if-is_setting.true) c.apply.ensures
 
 pub bounds-sizes-kind : goal.bounds-sizes-kind
 bounds-sizes-kind g c = kind-below _ (left-inside c.loop-place.invariant.walk.left).2
