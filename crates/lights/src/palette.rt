@@ -53,15 +53,26 @@ fn fill_sixteen(palette: &mut [u16; PALETTE], a: usize, g: u16)
     }
 }
 
-// Stores guess g for the stretches from a to before b, and for some past b. Most have no more than sixteen, which are stored before the loop:
-// the compiler makes four turns of it one, and that alone would cost each guess more than its stores.
+// The same for the stretches from a to before b, and for some past b. It stands apart, as few guesses come to it: the compiler makes four turns of
+// its loop one, and to set that up takes longer than the stores of most.
+#[inline(never)]
+fn fill_more(palette: &mut [u16; PALETTE], a: usize, b: usize, g: u16)
+    requires { (a ≤ b) × (b ≤ 1024) }
+    ensures { FilledFrom a g palette.old palette.new }
+{
+    for k in 0..(b - a).div_ceil(16) {
+        fill_sixteen(palette, a + 16 * k, g);
+    }
+}
+
+// Stores guess g for the stretches from a to before b, and for some past b.
 fn fill_stretches(palette: &mut [u16; PALETTE], a: usize, b: usize, g: u16)
     requires { (a ≤ 1024) × (b ≤ 1024) }
     ensures { FilledFrom a g palette.old palette.new }
 {
     fill_sixteen(palette, a, g);
-    for k in 1..b.saturating_sub(a).div_ceil(16) {
-        fill_sixteen(palette, a + 16 * k, g);
+    if a + 16 < b {
+        fill_more(palette, a + 16, b, g);
     }
 }
 
